@@ -1,0 +1,4 @@
+mod Options
+mod Codes
+mod Inverse
+mod Formed

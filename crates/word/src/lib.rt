@@ -1,2 +1,4 @@
-// Words of 32 bits: arithmetic with its flag, comparisons, and the bytes of a cell.
+// Words of 32 bits: what TinyRAM's operators make of them, and the bytes of a cell.
+pub mod cell;
 pub mod operator;
+pub mod outcome;

@@ -1,7 +1,7 @@
 // The operators of TinyRAM's instructions on two words.
 
-// What `op ri, rj, A` computes from the word in `rj` and from `A`; it sets the flag too.
-#[derive(Clone, Copy, PartialEq, Debug)]
+// What `op ri, rj, A` computes from the word in `rj` and from `A`.
+#[derive(Clone, Copy)]
 pub enum Arithmetic {
     And,
     Or,
@@ -17,8 +17,8 @@ pub enum Arithmetic {
     Shr,
 }
 
-// What `op ri, A` compares; the answer goes into the flag.
-#[derive(Clone, Copy, PartialEq, Debug)]
+// What `op ri, A` compares.
+#[derive(Clone, Copy)]
 pub enum Comparison {
     Equal,
     Above,
