@@ -12,7 +12,7 @@ use Rattle.dossier.specs.declared.record.Row.{Row}
 use Rattle.dossier.specs.declared.record.Line.{Line}
 use Rattle.log.specs.Log.{Event, eventAt, hits, Aligned, memory, logLines, logRows, rowOf}
 use Rattle.log.specs.Rules.{rowAt, kindOf, touchOf, Linked}
-use Rattle.log.specs.Run.{Demand, alone, advice, access, answer, Machine, Config, heard, tail, shown, unread, asked, after, shownAt, trace, Accepts, Logs}
+use Rattle.log.specs.Run.{Demand, alone, advice, access, answer, Machine, Fourths, Config, heard, tail, shown, unread, asked, after, shownAt, trace, Accepts, Logs}
 use Rattle.log.specs.Run.{Hears, adviceOf, stateAt, TouchFits, RowFits, Fits, RunComplete, RunUnique, RunLogged}
 use Rattle.log.proofs.Complete.{complete}
 use Rattle.log.proofs.Rows.{log-row, length-log}
@@ -107,24 +107,24 @@ module _ {S : Type 0} (M : Machine S) (rs : List Row) (ls : List Line) (ws : Lis
   }
 
   -- only an access shows a touch
-  access-shown : (c : ℕ) (q : Demand) (g : Config S) → asked M g ≡ q → hits c (shown M q g) ≡ true → c % 4 ≡ 0
-  access-shown c alone g e h = absurd (both-ways false refl h)
-  access-shown c advice g e h = absurd (both-ways (hits c (heard (g .tape))) (heard-misses c (g .tape)) h)
-  access-shown c (access b) g e h = ap (λ x. x % 4) (sym (eqb-true b c h)) ∙ M .fourth (g .state) b e
-  access-shown c (answer v) g e h = absurd (both-ways false refl h)
+  access-shown : Fourths M → (c : ℕ) (q : Demand) (g : Config S) → asked M g ≡ q → hits c (shown M q g) ≡ true → c % 4 ≡ 0
+  access-shown al c alone g e h = absurd (both-ways false refl h)
+  access-shown al c advice g e h = absurd (both-ways (hits c (heard (g .tape))) (heard-misses c (g .tape)) h)
+  access-shown al c (access b) g e h = ap (λ x. x % 4) (sym (eqb-true b c h)) ∙ al (g .state) b e
+  access-shown al c (answer v) g e h = absurd (both-ways false refl h)
 
-  aligned : Aligned es
-  aligned c zero e = absurd (both-ways false refl e)
-  aligned c (suc i) e =
+  aligned : Fourths M → Aligned es
+  aligned al c zero e = absurd (both-ways false refl e)
+  aligned al c (suc i) e =
       let k = touch-inside es c (suc i) e in
       let h : i < length rs = omega (arith, length-trace M ws (length rs)) in
-      access-shown c (asked M (after M ws i)) (after M ws i) refl (ap (hits c) (sym (trace-at M ws (length rs) i h)) ∙ e)
+      access-shown al c (asked M (after M ws i)) (after M ws i) refl (ap (hits c) (sym (trace-at M ws (length rs) i h)) ∙ e)
 
-  linked : Linked (M .initial) rs ls
-  linked = subst₂ (Linked (M .initial)) (sym (l .rows)) (sym (l .lines)) (complete (M .initial) es aligned .0)
+  linked : Fourths M → Linked (M .initial) rs ls
+  linked al = subst₂ (Linked (M .initial)) (sym (l .rows)) (sym (l .lines)) (complete (M .initial) es (aligned al) .0)
 
 pub run-complete : (S : Type 0) → RunComplete S
-run-complete S M rs ls ws l = (linked M rs ls ws l, fits M rs ls ws l)
+run-complete S M al rs ls ws l = (linked M rs ls ws l al, fits M rs ls ws l)
 
 -- ONE LOG
 
@@ -149,12 +149,12 @@ module _ {S : Type 0} (M : Machine S) (ws : List ℕ) where
       )
 
 -- a log is one of the run on its own advice words
-pub own-advice : {S : Type 0} (M : Machine S) (rs : List Row) (ls : List Line) (ws : List ℕ) → Logs M rs ls ws → Logs M rs ls (adviceOf rs)
-own-advice {S} M rs ls ws l = run-sound S M rs ls (linked M rs ls ws l) (fits M rs ls ws l)
+pub own-advice : {S : Type 0} (M : Machine S) → Fourths M → (rs : List Row) (ls : List Line) (ws : List ℕ) → Logs M rs ls ws → Logs M rs ls (adviceOf rs)
+own-advice {S} M al rs ls ws l = run-sound S M rs ls (linked M rs ls ws l al) (fits M rs ls ws l)
 
 pub run-unique : (S : Type 0) → RunUnique S
-run-unique S M rs rs′ ls ls′ ws ws′ l l′ e =
-    same-log M (adviceOf rs) rs rs′ ls ls′ (own-advice M rs ls ws l) (subst (Logs M rs′ ls′) (sym e) (own-advice M rs′ ls′ ws′ l′))
+run-unique S M al rs rs′ ls ls′ ws ws′ l l′ e =
+    same-log M (adviceOf rs) rs rs′ ls ls′ (own-advice M al rs ls ws l) (subst (Logs M rs′ ls′) (sym e) (own-advice M al rs′ ls′ ws′ l′))
 
 pub run-logged : (S : Type 0) → RunLogged S
 run-logged S M ws n a =

@@ -1,6 +1,7 @@
 -- The run of any machine with memory and an advice tape, its log, and the rules by which rows fit its steps.
 --
 --   `Machine S`               a machine whose state, but for memory and tape, is an S
+--   `Fourths M`               each cell that it asks for is a multiple of 4
 --   `after M ws n`            where the machine is after n steps from the start on the tape ws
 --   `trace M ws n`            what the first n steps show
 --   `Accepts M ws n`          step n answers 0, and no step before it answers
@@ -44,7 +45,10 @@ pub record Machine (S : Type 0) : Type 0 where
   pub asks : S → Demand
   pub makes : S → Option ℕ → S
   pub leaves : S → ℕ → ℕ
-  pub fourth : (s : S) (c : ℕ) → asks s ≡ access c → c % 4 ≡ 0
+
+-- each cell that it asks for is a multiple of 4
+abbrev pub Fourths : {S : Type 0} → Machine S → Type 0
+Fourths {S} M = (s : S) (c : ℕ) → M .asks s ≡ access c → c % 4 ≡ 0
 
 -- the state with memory and the part of the tape that is unread
 pub record Config (S : Type 0) : Type 0 where
@@ -215,11 +219,11 @@ RunSound S = (M : Machine S) (rs : List Row) (ls : List Line) → Linked (M .ini
 
 -- every log of an accepting run keeps all rules
 abbrev pub RunComplete : Type 0 → Type 0
-RunComplete S = (M : Machine S) (rs : List Row) (ls : List Line) (ws : List ℕ) → Logs M rs ls ws → Linked (M .initial) rs ls × Fits M rs
+RunComplete S = (M : Machine S) → Fourths M → (rs : List Row) (ls : List Line) (ws : List ℕ) → Logs M rs ls ws → Linked (M .initial) rs ls × Fits M rs
 
 -- equal advice words make equal logs
 abbrev pub RunUnique : Type 0 → Type 0
-RunUnique S = (M : Machine S) (rs rs′ : List Row) (ls ls′ : List Line) (ws ws′ : List ℕ) → Logs M rs ls ws → Logs M rs′ ls′ ws′ →
+RunUnique S = (M : Machine S) → Fourths M → (rs rs′ : List Row) (ls ls′ : List Line) (ws ws′ : List ℕ) → Logs M rs ls ws → Logs M rs′ ls′ ws′ →
     adviceOf rs ≡ adviceOf rs′ → (rs ≡ rs′) × (ls ≡ ls′)
 
 -- an accepting run has a log, of a row for each step
