@@ -1,0 +1,4 @@
+pub mod Numbers
+pub mod Meaning
+pub mod Cache
+pub mod Pair

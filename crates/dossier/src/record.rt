@@ -1,4 +1,11 @@
 // The records of a dossier.
+ghost use mathlib.Core.Path.{_≡_};
+ghost use mathlib.Core.List.{List};
+ghost use Prim.Native.Nat.{ℕ};
+ghost use denote.Ref.{now};
+ghost use Rattle.dossier.specs.Numbers.{same, head-numbers, instruction-numbers, word-numbers, line-numbers, row-numbers};
+use encoding::instruction::Instruction;
+use encoding::instruction::InstructionPartialEq;
 
 // How long a dossier's four lists are, and the bound on the run's steps.
 #[derive(Clone, Copy, PartialEq, Debug)]
@@ -41,4 +48,52 @@ pub enum Row {
     Advice(u32),
     // a read past the end of the auxiliary tape
     AdviceEnd,
+}
+
+// A record is made of numbers, and two records are the same if these are.
+pub trait Record: Copy {
+    ghost numbers: { Self → List ℕ };
+
+    fn is_same(&self, other: &Self) -> bool
+        ensures { λ r. ⌜ r ≡ same numbers (now (self .entry)) (now (other .entry)) ⌝ };
+}
+
+pub impl Record for Head as HeadRecord {
+    ghost numbers = { head-numbers };
+
+    fn is_same(&self, other: &Head) -> bool {
+        *self == *other
+    }
+}
+
+pub impl Record for Instruction as InstructionRecord {
+    ghost numbers = { instruction-numbers };
+
+    fn is_same(&self, other: &Instruction) -> bool {
+        *self == *other
+    }
+}
+
+pub impl Record for u32 as WordRecord {
+    ghost numbers = { word-numbers };
+
+    fn is_same(&self, other: &u32) -> bool {
+        *self == *other
+    }
+}
+
+pub impl Record for Line as LineRecord {
+    ghost numbers = { line-numbers };
+
+    fn is_same(&self, other: &Line) -> bool {
+        *self == *other
+    }
+}
+
+pub impl Record for Row as RowRecord {
+    ghost numbers = { row-numbers };
+
+    fn is_same(&self, other: &Row) -> bool {
+        *self == *other
+    }
 }

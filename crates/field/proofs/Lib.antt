@@ -1,0 +1,4 @@
+pub mod LittleEndian
+pub mod Fields
+pub mod RowForm
+pub mod Forms
