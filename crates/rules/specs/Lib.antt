@@ -1,0 +1,4 @@
+pub mod Units
+pub mod Checks
+pub mod Course
+pub mod Cases
