@@ -40,7 +40,7 @@ not-below c (l ∷ ls) e h = elim h [ inl x ↦ omega (arith, e .0) | inr x ↦ 
 
 -- the three ways of `addLine`
 module _ (c t : ℕ) (l : Line) (ls : List Line) (P : List Line → Type 0) where
-  add-ways : (c < l .cell → P (record { cell = c; step = t } ∷ l ∷ ls)) → (c ≡ l .cell → P (l ∷ ls)) → (l .cell < c → P (l ∷ addLine c t ls)) → P (addLine c t (l ∷ ls))
+  pub add-ways : (c < l .cell → P (record { cell = c; step = t } ∷ l ∷ ls)) → (c ≡ l .cell → P (l ∷ ls)) → (l .cell < c → P (l ∷ addLine c t ls)) → P (addLine c t (l ∷ ls))
   add-ways below same above = elim (cases-order c (l .cell)) [
     | inl e ↦ rw (le-ltb c (l .cell) (omega arith), eq-eqb c (l .cell) e) (same e)
     | inr (inl h) ↦ rw (lt-ltb c (l .cell) h) (below h)
