@@ -1,5 +1,6 @@
 // An instruction as it is stored: two words.
 ghost use mathlib.Core.Path.{_≡_};
+ghost use Rattle.std.specs.Options.{isSome};
 ghost use Rattle.std.specs.declared.option.Option.the-variants.{Some};
 ghost use Rattle.encoding.specs.Encoding.{operandOf, arranged, decoded, encoded, meant};
 ghost use Rattle.encoding.specs.Formed.{wellFormed};
@@ -85,12 +86,18 @@ impl Instruction {
         self.read()
     }
 
+    fn is_readable(self) -> bool
+        ensures { λ r. ⌜ r ≡ isSome (decoded self) ⌝ }
+    {
+        self.read().is_some()
+    }
+
     // Whether the opcode is one of the 29, the fields that it does not use are 0,
     // and a register in the operand is at most 15.
     pub fn well_formed(self) -> bool
         ensures { λ r. ⌜ r ≡ wellFormed self ⌝ }
     {
-        self.decode().is_some()
+        self.is_readable()
     }
 
     // What the machine executes: an ill-formed instruction is taken as `answer 1`.
