@@ -5,21 +5,21 @@ use mathlib.Core.Bool.{Bool, true, false, cond, _&&_}
 use mathlib.Core.List.{List}
 use Prim.Native.Nat.{ℕ, zero, suc, _≤_, _<_}
 use native.Mathlib.Omega.{arith}
-use lib.Dec.{eqb, ltb, leb}
+use lib.Dec.{eqb, ltb}
 use lib.ListN.{length}
 use Rattle.std.specs.Orderings.{Decides}
 use Rattle.std.proofs.shelf.Tests.{cases-lt, both-ways, eqb-false, ne-eqb, or-parts, or-from}
 use Rattle.std.proofs.shelf.Ways.{tells, decides-eqb, decides-ltb, decides-or}
-use mathlib.Core.Logic.{_⊎_, inl, inr}
+use mathlib.Core.Logic.{inl, inr}
 use Rattle.dossier.specs.declared.record.Row.{Row}
 use Rattle.dossier.specs.declared.record.Row.the-variants.{Plain, FromLine, FromStep, Advice, AdviceEnd}
 use Rattle.dossier.specs.declared.record.Touch.{Touch}
 use Rattle.dossier.specs.declared.record.Line.{Line}
 use Rattle.log.specs.Log.{IsLog}
-use Rattle.log.specs.Rules.{rowAt, lineAt, kindOf, LineOrder, LineStep, LineOrigin, StepOrigin, LedOn, NextLink, RowLinks, Linked}
+use Rattle.log.specs.Rules.{rowAt, lineAt, kindOf, LineOrder, LineStep, LineOrigin, StepOrigin, LedOn, NextLink, RowLinks}
 use Rattle.log.specs.Rules.{fromStep, testLineOrder, testLineStep, testLineOrigin, testStepOrigin, testNextLink, lineFinding, linkFinding, NoFinding, Decided}
-use Rattle.log.specs.Run.{Demand, alone, advice, access, answer, Machine, Hears, TouchFits, RowFits, Fits, stateAt, RunDecided}
-use Rattle.log.specs.Run.{endedBy, plainFinding, adviceFinding, touchFinding, stepFinding, NoStepFinding}
+use Rattle.log.specs.Run.{Demand, alone, advice, access, answer, Hears, TouchFits, RowFits, stateAt, RunDecided}
+use Rattle.log.specs.Run.{endedBy, plainFinding, adviceFinding, touchFinding, stepFinding}
 use Rattle.log.specs.Sample.{Sample}
 use Rattle.log.specs.Words.{Exactly}
 use Rattle.log.proofs.Sound.{sound}

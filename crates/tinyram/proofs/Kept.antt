@@ -1,10 +1,9 @@
 -- The state, memory and tape of a run stay words, and so does what the steps show.
 -- Assumes nothing.
-use mathlib.Core.Path.{_≡_, refl, sym, ap}
-use mathlib.Core.Logic.{_⊎_, inl, inr}
-use mathlib.Core.Bool.{true, false, cond}
+use mathlib.Core.Path.{_≡_, refl}
+use mathlib.Core.Logic.{inl, inr}
 use mathlib.Core.List.{List, [], _∷_}
-use Prim.Native.Nat.{ℕ, zero, suc, _^_, _≤_, _<_}
+use Prim.Native.Nat.{ℕ, zero, suc, _^_, _<_}
 use native.Mathlib.Omega.{arith}
 use lib.Dec.{eqb, ltb}
 use lib.ListN.{length, getD, List·getD-eq-default}
@@ -15,15 +14,15 @@ use Rattle.encoding.specs.declared.instruction.Instruction.{Instruction}
 use Rattle.machine.specs.declared.cpu.Cpu.{Cpu}
 use Rattle.machine.specs.declared.step.Demand.{Demand}
 use Rattle.machine.specs.declared.step.Demand.the-variants.{Nothing, Cell, Primary, Advice, Halt}
-use Rattle.machine.specs.State.{start, valueOf}
+use Rattle.machine.specs.State.{start}
 use Rattle.machine.specs.Effects.{answerOne}
 use Rattle.dossier.specs.Meaning.{Each}
 use Rattle.dossier.specs.Numbers.{Words, Fit, instruction-numbers}
-use Rattle.log.specs.Log.{Event, quiet, zeroed, eventAt}
-use Rattle.log.specs.Run.{alone, advice, access, answer, Config, tail, heard, given, shown, stored, unread, asked, after, shownAt, trace}
+use Rattle.log.specs.Log.{quiet, zeroed, eventAt}
+use Rattle.log.specs.Run.{alone, advice, access, answer, Config, tail, heard, given, shown, stored, unread, asked, after}
 use Rattle.log.specs.Run as run
 use Rattle.log.proofs.Along.{trace-at, length-trace}
-use Rattle.tinyram.specs.Program.{wordAt, supplied, operation, demand, tinyram, cpuAt, eventsIn}
+use Rattle.tinyram.specs.Program.{wordAt, supplied, operation, demand, tinyram, eventsIn}
 use Rattle.tinyram.specs.Words.{CpuWords, InWords, ProgramWords}
 use Rattle.tinyram.proofs.Run.{operandIn, cell-asked}
 use Rattle.tinyram.proofs.Words.{OperandWord, GivenWord, meant-word, value-word, stepped-words, left-word}

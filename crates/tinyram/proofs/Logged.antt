@@ -8,7 +8,7 @@ use Rattle.encoding.specs.declared.operation.Operand.{Operand}
 use Rattle.encoding.specs.declared.operation.Operand.the-variants.{Immediate}
 use Rattle.encoding.specs.declared.operation.Operation.the-variants.{Answer}
 use Rattle.machine.specs.State.{valueOf}
-use Rattle.tinyram.specs.Program.{cpuAt, executed, AcceptsIn}
+use Rattle.tinyram.specs.Program.{cpuAt, executed}
 use Rattle.tinyram.specs.Sample.{sampleProgram, SampleLog}
 
 abbrev tape : List ℕ

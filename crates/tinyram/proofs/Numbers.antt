@@ -1,7 +1,7 @@
 -- The log of events whose numbers are words has no other numbers.
 -- Assumes nothing.
-use mathlib.Core.Path.{_≡_, refl, sym, ap, subst}
-use mathlib.Core.Logic.{_⊎_, inl, inr}
+use mathlib.Core.Path.{_≡_, refl, subst}
+use mathlib.Core.Logic.{inl, inr}
 use mathlib.Core.Bool.{true, false}
 use mathlib.Core.List.{List, [], _∷_}
 use Prim.Native.Nat.{ℕ, zero, suc, _^_, _≤_, _<_}
@@ -14,7 +14,7 @@ use Rattle.dossier.specs.declared.record.Touch.{Touch}
 use Rattle.dossier.specs.declared.record.Line.{Line}
 use Rattle.dossier.specs.Meaning.{Each}
 use Rattle.dossier.specs.Numbers.{Words, Fit, line-numbers, touch-numbers, row-numbers}
-use Rattle.log.specs.Log.{Event, quiet, word, ended, touch, eventAt, hits, left, touches, addLine, openFor, openings, logLines, logRows}
+use Rattle.log.specs.Log.{Event, quiet, word, ended, touch, eventAt, hits, left, addLine, openFor, openings, logLines, logRows}
 use Rattle.log.specs.Rules.{rowAt, lineAt}
 use Rattle.log.specs.Words.{After, Holds, Recorded, Records}
 use Rattle.log.proofs.Lines.{add-ways, touch-inside, log-opens}

@@ -1,10 +1,9 @@
 -- The theorems of runs, for programs.
 -- Assumes nothing.
-use mathlib.Core.Path.{_≡_, refl, sym, ap, subst, _∙_}
+use mathlib.Core.Path.{_≡_, refl, ap, _∙_}
 use mathlib.Core.List.{List}
 use mathlib.Core.Bool.{Bool, true, false, cond}
-use mathlib.Core.Logic.{_⊎_, inl, inr}
-use Prim.Native.Nat.{ℕ, suc, _-_, _%_, _<_}
+use Prim.Native.Nat.{ℕ}
 use native.Mathlib.Omega.{arith}
 use lib.Dec.{eqb}
 use lib.ListN.{length}
@@ -13,8 +12,7 @@ use Rattle.encoding.specs.declared.operation.Operand.{Operand}
 use Rattle.encoding.specs.declared.operation.Operation.{Operation}
 use Rattle.encoding.specs.declared.operation.Operation.the-variants.{Compute, Not, Compare, Move, MoveIfFlag, Jump, Store, Load, Read, Answer}
 use Rattle.machine.specs.declared.cpu.Cpu.{Cpu}
-use Rattle.machine.specs.declared.step.Demand.{Demand}
-use Rattle.machine.specs.declared.step.Demand.the-variants.{Nothing, Cell, Primary, Advice, Halt}
+use Rattle.machine.specs.declared.step.Demand.the-variants.{Nothing, Primary, Advice}
 use Rattle.machine.specs.State.{valueOf}
 use Rattle.machine.specs.Effects.{asked}
 use Rattle.word.specs.Cell.{cellOf}
@@ -24,7 +22,7 @@ use Rattle.log.specs.Run.{alone, advice, access, answer, Fourths, Accepts, Logs
 use Rattle.log.specs.Run as run
 use Rattle.log.proofs.RunSound.{run-sound}
 use Rattle.log.proofs.RunComplete.{run-complete, run-unique, run-logged}
-use Rattle.tinyram.specs.Program.{outside, demand, operation, tinyram, cpuAt, executed, AcceptsIn, LogsRun, Keeps}
+use Rattle.tinyram.specs.Program.{outside, operation, tinyram, cpuAt, executed, AcceptsIn, LogsRun}
 use Rattle.tinyram.specs.Program.{Accepting, ProgramSound, ProgramComplete, ProgramLogged, ProgramUnique}
 
 -- WHAT A STEP ASKS

@@ -3,7 +3,6 @@
 -- Assumes nothing.
 use mathlib.Core.Path.{_≡_}
 use mathlib.Core.List.{List, [], _∷_}
-use Prim.Native.Nat.{ℕ}
 use Rattle.encoding.specs.declared.instruction.Instruction.{Instruction}
 use Rattle.log.specs.Sample.{sampleRows, sampleLines}
 use Rattle.tinyram.specs.Program.{AcceptsIn, rowsOf, linesOf}

@@ -1,10 +1,12 @@
 // A small program, and its log.
-ghost use Rattle.tinyram.specs.Sample.{SampleLog};
+ghost use mathlib.Core.Path.{_≡_};
+ghost use Rattle.tinyram.specs.Sample.{sampleProgram, SampleLog};
 use encoding::instruction::Instruction;
 
 // On the auxiliary word 7 the program accepts in 6 steps. Its log has one opening line.
 pub fn sample() -> [Instruction; 7]
-    ensures { λ r. ⌜ SampleLog r ⌝ }
+    ensures program { λ r. ⌜ r ≡ sampleProgram ⌝ }
+    ensures log { λ r. ⌜ SampleLog r ⌝ }
 {
     [
         // read r1, 1

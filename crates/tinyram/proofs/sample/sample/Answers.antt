@@ -1,5 +1,8 @@
+use mathlib.Core.Path.{_≡_, subst, sym}
+use borrow.Author.Needs.{needs}
+use Rattle.tinyram.specs.Sample.{sampleProgram, SampleLog}
 use Rattle.tinyram.proofs.Logged.{sample-log}
 use Rattle.tinyram.proofs.sample.sample.Needs as need
 
 pub returns : need.returns
-returns c = sample-log
+returns c = record { program = search needs; log = sample-log }
