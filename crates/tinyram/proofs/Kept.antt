@@ -1,9 +1,9 @@
--- The state, memory and tape of a run stay words, and so does what the steps show.
+-- The state, memory and tape of a run stay words, and so does what the steps show; the tape of advice words.
 -- Assumes nothing.
-use mathlib.Core.Path.{_≡_, refl}
+use mathlib.Core.Path.{_≡_, refl, subst, _∙_}
 use mathlib.Core.Logic.{inl, inr}
 use mathlib.Core.List.{List, [], _∷_}
-use Prim.Native.Nat.{ℕ, zero, suc, _^_, _<_}
+use Prim.Native.Nat.{ℕ, zero, suc, _^_, _≤_, _<_}
 use native.Mathlib.Omega.{arith}
 use lib.Dec.{eqb, ltb}
 use lib.ListN.{length, getD, List·getD-eq-default}
@@ -13,20 +13,23 @@ use Rattle.std.specs.declared.option.Option.the-variants.{Some, None}
 use Rattle.encoding.specs.declared.instruction.Instruction.{Instruction}
 use Rattle.machine.specs.declared.cpu.Cpu.{Cpu}
 use Rattle.machine.specs.declared.step.Demand.{Demand}
-use Rattle.machine.specs.declared.step.Demand.the-variants.{Nothing, Cell, Primary, Advice, Halt}
+use Rattle.machine.specs.declared.step.Demand.the-variants as demanded
 use Rattle.machine.specs.State.{start}
 use Rattle.machine.specs.Effects.{answerOne}
 use Rattle.dossier.specs.Meaning.{Each}
-use Rattle.dossier.specs.Numbers.{Words, Fit, instruction-numbers}
+use Rattle.dossier.specs.declared.record.Row.{Row}
+use Rattle.dossier.specs.declared.record.Row.the-variants.{Plain, FromLine, FromStep, Advice, AdviceEnd}
+use Rattle.dossier.specs.Numbers.{Words, Fit, instruction-numbers, row-numbers}
 use Rattle.log.specs.Log.{quiet, zeroed, eventAt}
-use Rattle.log.specs.Run.{alone, advice, access, answer, Config, tail, heard, given, shown, stored, unread, asked, after}
+use Rattle.log.specs.Run.{alone, advice, access, answer, Config, tail, heard, given, shown, stored, unread, asked, after, adviceOf}
 use Rattle.log.specs.Run as run
+use Rattle.log.proofs.Rows.{length-log}
 use Rattle.log.proofs.Along.{trace-at, length-trace}
-use Rattle.tinyram.specs.Program.{wordAt, supplied, operation, demand, tinyram, eventsIn}
-use Rattle.tinyram.specs.Words.{CpuWords, InWords, ProgramWords}
-use Rattle.tinyram.proofs.Run.{operandIn, cell-asked}
+use Rattle.tinyram.specs.Program.{wordAt, supplied, operation, demand, tinyram, eventsIn, linesOf, ProgramCounts}
+use Rattle.tinyram.specs.Words.{CpuWords, InWords, ProgramWords, ProgramDecided}
+use Rattle.tinyram.proofs.Run.{operandIn, cell-asked, program-sound, program-complete}
 use Rattle.tinyram.proofs.Words.{OperandWord, GivenWord, meant-word, value-word, stepped-words, left-word}
-use Rattle.tinyram.proofs.Numbers.{each-at, words-at, EventWords, log-rows-words, log-lines-words}
+use Rattle.tinyram.proofs.Numbers.{openings-length, each-at, words-at, EventWords, log-rows-words, log-lines-words}
 
 heard-words : (ws : List ℕ) → Words ws → EventWords (heard ws)
 heard-words [] h = tt
@@ -59,11 +62,11 @@ module _ (p : List Instruction) (primary aux : List ℕ) (program : Each (Fit in
   word-at-word i = cond-both (ltb i (length primary)) (Some (getD primary i 0)) None GivenWord (λ e. words-at primary first i) (λ e. tt)
 
   supplied-word : (s : Cpu) (d : Demand) (g : Option ℕ) → GivenWord g → GivenWord (supplied primary s d g)
-  supplied-word s Nothing g h = h
-  supplied-word s (Cell c) g h = h
-  supplied-word s Primary g h = word-at-word (s .place)
-  supplied-word s Advice g h = h
-  supplied-word s (Halt v) g h = h
+  supplied-word s demanded.Nothing g h = h
+  supplied-word s (demanded.Cell c) g h = h
+  supplied-word s demanded.Primary g h = word-at-word (s .place)
+  supplied-word s demanded.Advice g h = h
+  supplied-word s (demanded.Halt v) g h = h
 
   module _ (g : Config Cpu) (h : ConfigWords g) where
     given-word : (d : run.Demand) → GivenWord (given (tinyram p primary) d g)
@@ -134,3 +137,24 @@ module _ (p : List Instruction) (primary aux : List ℕ) (program : Each (Fit in
 
 pub program-words : ProgramWords
 program-words p primary aux program first second = in-words p primary aux program first second
+
+-- COUNTS, AND THE TAPE OF THE ADVICE WORDS
+
+pub program-counts : ProgramCounts
+program-counts p primary aux T =
+    let n = length-trace (tinyram p primary) aux T in
+    (length-log zeroed (eventsIn p primary aux T) ∙ n, subst (λ k. length (linesOf p primary aux T) ≤ k) n (openings-length (eventsIn p primary aux T) (length (eventsIn p primary aux T))))
+
+advice-words : (rs : List Row) → Each (Fit row-numbers) rs → Words (adviceOf rs)
+advice-words [] h = tt
+advice-words (Plain ∷ rs) h = advice-words rs (h .1)
+advice-words (FromLine x ∷ rs) h = advice-words rs (h .1)
+advice-words (FromStep x ∷ rs) h = advice-words rs (h .1)
+advice-words (Advice w ∷ rs) h = (h .0 .1 .0, advice-words rs (h .1))
+advice-words (AdviceEnd ∷ rs) h = advice-words rs (h .1)
+
+pub program-decided : ProgramDecided
+program-decided p primary rs ls h = (
+  λ k. (adviceOf rs, advice-words rs h, program-sound p primary rs ls k),
+  λ l. program-complete p primary (l .0) rs ls (l .2),
+)

@@ -71,7 +71,7 @@ open-length t (word w) ls = omega arith
 open-length t ended ls = omega arith
 open-length t (touch c a) ls = add-length c t ls
 
-openings-length : (es : List Event) (t : ℕ) → length (openings es t) ≤ t
+pub openings-length : (es : List Event) (t : ℕ) → length (openings es t) ≤ t
 openings-length es zero = omega arith
 openings-length es (suc t) =
     let k = openings-length es t in

@@ -125,6 +125,11 @@ abbrev pub ProgramLogged : Type 0
 ProgramLogged = (p : List Instruction) (primary aux : List ℕ) (T : ℕ) →
     AcceptsIn p primary aux T → LogsRun p primary aux (rowsOf p primary aux T) (linesOf p primary aux T)
 
+-- the log of T steps has T rows, and at most T lines
+abbrev pub ProgramCounts : Type 0
+ProgramCounts = (p : List Instruction) (primary aux : List ℕ) (T : ℕ) →
+    (length (rowsOf p primary aux T) ≡ T) × (length (linesOf p primary aux T) ≤ T)
+
 -- equal advice words make equal logs
 abbrev pub ProgramUnique : Type 0
 ProgramUnique = (p : List Instruction) (primary aux aux′ : List ℕ) (rs rs′ : List Row) (ls ls′ : List Line) →

@@ -1,6 +1,4 @@
-use mathlib.Core.Path.{_≡_, subst, sym}
 use borrow.Author.Needs.{needs}
-use Rattle.tinyram.specs.Sample.{sampleProgram, SampleLog}
 use Rattle.tinyram.proofs.Logged.{sample-log}
 use Rattle.tinyram.proofs.sample.sample.Needs as need
 
