@@ -3,17 +3,16 @@
 use mathlib.Core.Path.{_≡_, refl, sym, ap, _∙_}
 use mathlib.Core.Bool.{false, cond}
 use mathlib.Core.List.{List, [], _∷_}
-use Prim.Native.Nat.{ℕ, zero, suc, _≤_, _<_}
+use Prim.Native.Nat.{ℕ, suc, _<_}
 use native.Mathlib.Omega.{arith}
 use lib.Dec.{eqb}
 use lib.ListN.{length}
-use Rattle.std.specs.declared.option.Option.{Option}
-use Rattle.std.specs.declared.option.Option.the-variants.{Some, None}
+use Rattle.std.specs.declared.option.Option.the-variants.{Some}
 use Rattle.std.proofs.shelf.Tests.{cond-both}
 use Rattle.std.proofs.shelf.Counted.{length-map-counting, getD-map-counting}
 use Rattle.dossier.specs.declared.record.Row.{Row}
-use Rattle.dossier.specs.declared.record.Row.the-variants.{Plain, FromLine, FromStep, Advice, AdviceEnd}
-use Rattle.log.specs.Log.{Event, quiet, word, ended, touch, eventAt, hits, memory, touchBefore, touchAfter, lineOf, logLines, rowOf}
+use Rattle.dossier.specs.declared.record.Row.the-variants.{FromLine, FromStep}
+use Rattle.log.specs.Log.{Event, quiet, touch, eventAt, hits, memory, touchBefore, touchAfter, lineOf, logLines, rowOf}
 use Rattle.log.specs.Rules.{rowAt, touchOf, IsTouch}
 use Rattle.log.specs.Run.{Demand, alone, advice, access, answer, Machine, Config, head, heard, given, shown, stored, asked, after, shownAt, trace, inputOf, stateAt}
 

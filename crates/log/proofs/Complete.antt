@@ -1,10 +1,10 @@
 -- The log of any events keeps the link rules, and its rows say these events.
 -- Each rule is read off the rows in words. Assumes nothing.
 use mathlib.Core.Path.{_≡_, refl, sym, ap, subst, subst₂, _∙_}
-use mathlib.Core.Logic.{_⊎_, inl, inr}
-use mathlib.Core.Bool.{true, false}
+use mathlib.Core.Logic.{inl, inr}
+use mathlib.Core.Bool.{true}
 use mathlib.Core.List.{List}
-use Prim.Native.Nat.{ℕ, suc, _≤_, _<_}
+use Prim.Native.Nat.{ℕ, suc, _<_}
 use native.Mathlib.Omega.{arith}
 use lib.ListN.{length}
 use Rattle.std.proofs.shelf.Tests.{both-ways, eqb-true, eq-eqb}
@@ -14,11 +14,11 @@ use Rattle.dossier.specs.declared.record.Row.the-variants.{Plain, FromLine, Fro
 use Rattle.dossier.specs.declared.record.Touch.{Touch}
 use Rattle.dossier.specs.declared.record.Line.{Line}
 use Rattle.log.specs.Log.{Event, quiet, eventAt, hits, left, touches, lineOf, logLines, logRows, eventOf, eventsOf, Aligned, IsLog}
-use Rattle.log.specs.Rules.{rowAt, lineAt, kindOf, touchOf, IsTouch, LineStep, LineOrigin, StepOrigin, LedOn, NextLink, RowLinks, Linked, Complete}
-use Rattle.log.specs.Words.{IsLast, IsNext, IsFirst, After, LineFor, Opens, Recorded, Records, InRows}
+use Rattle.log.specs.Rules.{rowAt, lineAt, kindOf, touchOf, IsTouch, LineStep, LineOrigin, StepOrigin, NextLink, RowLinks, Linked, Complete}
+use Rattle.log.specs.Words.{IsLast, IsFirst, After, LineFor, Opens, Recorded, Records, InRows}
 use Rattle.log.proofs.Find.{one-last, one-next, last-next, next-last}
 use Rattle.log.proofs.Lines.{one-first, line-of, log-opens, touch-inside}
-use Rattle.log.proofs.Rows.{event-row, length-log, length-events}
+use Rattle.log.proofs.Rows.{event-row, length-events}
 use Rattle.log.proofs.Worded.{rows-of}
 
 -- what a row records is what it says

@@ -2,13 +2,13 @@
 -- Assumes nothing.
 use mathlib.Core.Path.{_≡_, refl, sym, ap, _∙_}
 use mathlib.Core.Logic.{_⊎_, inl, inr}
-use mathlib.Core.Bool.{Bool, true, false, cond}
+use mathlib.Core.Bool.{true, false}
 use mathlib.Core.List.{List, [], _∷_}
-use Prim.Native.Nat.{ℕ, zero, suc, _+_, _≤_, _<_}
+use Prim.Native.Nat.{ℕ, zero, suc, _≤_, _<_}
 use native.Mathlib.Omega.{arith}
-use lib.Dec.{eqb, ltb}
+use lib.Dec.{eqb}
 use lib.ListN.{length, getD, List·getD-eq-default}
-use Rattle.std.proofs.shelf.Tests.{cases-lt, cases-order, cases-bool, ltb-true, ltb-false, eqb-true, eqb-false, lt-ltb, le-ltb, eq-eqb, ne-eqb}
+use Rattle.std.proofs.shelf.Tests.{cases-lt, cases-order, eqb-true, lt-ltb, le-ltb, eq-eqb, ne-eqb}
 use Rattle.log.proofs.Find.{false-since}
 use Rattle.dossier.specs.declared.record.Line.{Line}
 use Rattle.log.specs.Log.{Event, quiet, word, ended, touch, eventAt, hits, touches, addLine, openFor, openings, logLines, lineOf}
@@ -40,7 +40,7 @@ not-below c (l ∷ ls) e h = elim h [ inl x ↦ omega (arith, e .0) | inr x ↦ 
 
 -- the three ways of `addLine`
 module _ (c t : ℕ) (l : Line) (ls : List Line) (P : List Line → Type 0) where
-  add-ways : (c < l .cell → P (record { cell = c; step = t } ∷ l ∷ ls)) → (c ≡ l .cell → P (l ∷ ls)) → (l .cell < c → P (l ∷ addLine c t ls)) → P (addLine c t (l ∷ ls))
+  pub add-ways : (c < l .cell → P (record { cell = c; step = t } ∷ l ∷ ls)) → (c ≡ l .cell → P (l ∷ ls)) → (l .cell < c → P (l ∷ addLine c t ls)) → P (addLine c t (l ∷ ls))
   add-ways below same above = elim (cases-order c (l .cell)) [
     | inl e ↦ rw (le-ltb c (l .cell) (omega arith), eq-eqb c (l .cell) e) (same e)
     | inr (inl h) ↦ rw (lt-ltb c (l .cell) h) (below h)

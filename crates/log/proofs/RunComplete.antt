@@ -1,7 +1,7 @@
 -- Every log of an accepting run keeps all rules; a run has one log, decided by its advice words.
 -- Assumes nothing.
 use mathlib.Core.Path.{_≡_, refl, sym, ap, subst, subst₂, _∙_}
-use mathlib.Core.Logic.{_⊎_, inl, inr}
+use mathlib.Core.Logic.{inl, inr}
 use mathlib.Core.Bool.{true, false}
 use mathlib.Core.List.{List, [], _∷_}
 use Prim.Native.Nat.{ℕ, zero, suc, _%_, _≤_, _<_}
@@ -11,9 +11,9 @@ use Rattle.std.proofs.shelf.Tests.{cases-lt, cases-order, eqb-true, both-ways}
 use Rattle.dossier.specs.declared.record.Row.{Row}
 use Rattle.dossier.specs.declared.record.Line.{Line}
 use Rattle.log.specs.Log.{Event, eventAt, hits, Aligned, memory, logLines, logRows, rowOf}
-use Rattle.log.specs.Rules.{rowAt, kindOf, touchOf, Linked}
+use Rattle.log.specs.Rules.{rowAt, kindOf, Linked}
 use Rattle.log.specs.Run.{Demand, alone, advice, access, answer, Machine, Fourths, Config, heard, tail, shown, unread, asked, after, shownAt, trace, Accepts, Logs}
-use Rattle.log.specs.Run.{Hears, adviceOf, stateAt, TouchFits, RowFits, Fits, RunComplete, RunUnique, RunLogged}
+use Rattle.log.specs.Run.{Hears, adviceOf, RowFits, Fits, RunComplete, RunUnique, RunLogged}
 use Rattle.log.proofs.Complete.{complete}
 use Rattle.log.proofs.Rows.{log-row, length-log}
 use Rattle.log.proofs.Lines.{touch-inside}

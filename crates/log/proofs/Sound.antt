@@ -2,7 +2,7 @@
 -- The rules give the chains of touches, and these give each row in words.
 -- Assumes nothing.
 use mathlib.Core.Path.{_≡_, refl, sym, ap, subst, _∙_}
-use mathlib.Core.Logic.{_⊎_, inl, inr}
+use mathlib.Core.Logic.{inl, inr}
 use mathlib.Core.Bool.{true, false}
 use mathlib.Core.List.{List}
 use Prim.Native.Nat.{ℕ, zero, suc, _%_, _≤_, _<_}
@@ -15,7 +15,7 @@ use Rattle.dossier.specs.declared.record.Touch.{Touch}
 use Rattle.dossier.specs.declared.record.Line.{Line}
 use Rattle.log.specs.Log.{Event, eventAt, hits, left, touches, logRows, logLines, eventOf, eventsOf, Aligned, IsLog}
 use Rattle.log.specs.Rules.{rowAt, lineAt, kindOf, touchOf, LineOrder, LineOrigin, StepOrigin, NextLink, RowLinks, Linked, Sound, Unique}
-use Rattle.log.specs.Words.{IsLast, IsNext, NoneBefore, After, Rising, Opens, Records, InRows}
+use Rattle.log.specs.Words.{IsLast, NoneBefore, After, Rising, Opens, Records, InRows}
 use Rattle.log.proofs.Chain.{Chained, At, first-is-first, origin-last, next-none, next-some, line-at, line-for}
 use Rattle.log.proofs.Find.{false-since}
 use Rattle.log.proofs.Rows.{event-row, row-inside, touched, hitting, left-is, length-events}

@@ -1,10 +1,10 @@
 -- The log's definitions compute what the relations in words say.
 -- Assumes nothing.
 use mathlib.Core.Path.{_≡_, refl, sym, ap, subst, _∙_}
-use mathlib.Core.Logic.{_⊎_, inl, inr}
+use mathlib.Core.Logic.{inl, inr}
 use mathlib.Core.Bool.{true, false}
 use mathlib.Core.List.{List}
-use Prim.Native.Nat.{ℕ, _+_, _-_, _≤_, _<_}
+use Prim.Native.Nat.{ℕ, _-_}
 use native.Mathlib.Omega.{arith}
 use lib.Dec.{eqb}
 use lib.ListN.{length}
@@ -13,8 +13,8 @@ use Rattle.dossier.specs.declared.record.Row.{Row}
 use Rattle.dossier.specs.declared.record.Row.the-variants.{Plain, FromLine, FromStep, Advice, AdviceEnd}
 use Rattle.dossier.specs.declared.record.Line.{Line}
 use Rattle.log.specs.Log.{Event, quiet, word, ended, touch, eventAt, hits, left, touches, memory, touchBefore, touchAfter, lineOf, logLines, rowOf, logRows}
-use Rattle.log.specs.Rules.{rowAt, lineAt}
-use Rattle.log.specs.Words.{Exactly, IsLast, IsNext, NoneBefore, NoneAfter, Before, After, Holds, LineFor, Opens, Recorded, Records, InRows, InWords, Worded}
+use Rattle.log.specs.Rules.{rowAt}
+use Rattle.log.specs.Words.{Exactly, IsLast, IsNext, NoneBefore, Before, After, Holds, LineFor, Opens, Records, InRows, Worded}
 use Rattle.log.proofs.Find.{false-since, last-cases, latest-none, latest-is, next-cases, after-none, after-is}
 use Rattle.log.proofs.Lines.{line-of, same-opens, log-opens, touch-inside}
 use Rattle.log.proofs.Rows.{log-row, length-log, same-rows}

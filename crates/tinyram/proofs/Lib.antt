@@ -1,0 +1,5 @@
+pub mod Run
+pub mod Words
+pub mod Numbers
+pub mod Kept
+pub mod Logged
