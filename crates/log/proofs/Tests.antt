@@ -17,7 +17,7 @@ use Rattle.dossier.specs.declared.record.Touch.{Touch}
 use Rattle.dossier.specs.declared.record.Line.{Line}
 use Rattle.log.specs.Log.{IsLog}
 use Rattle.log.specs.Rules.{rowAt, lineAt, kindOf, LineOrder, LineStep, LineOrigin, StepOrigin, LedOn, NextLink, RowLinks}
-use Rattle.log.specs.Rules.{fromStep, testLineOrder, testLineStep, testLineOrigin, testStepOrigin, testNextLink, lineFinding, linkFinding, NoFinding, Decided}
+use Rattle.log.specs.Rules.{fromStep, testLineOrder, testLineStep, testLineOrigin, testStepOrigin, testNextLink, lineFinding, linkFinding, RowsPass, NoFinding, Decided}
 use Rattle.log.specs.Run.{Demand, alone, advice, access, answer, Hears, TouchFits, RowFits, stateAt, RunDecided}
 use Rattle.log.specs.Run.{endedBy, plainFinding, adviceFinding, touchFinding, stepFinding}
 use Rattle.log.specs.Sample.{Sample}
@@ -81,8 +81,7 @@ module _ (initial : ℕ → ℕ) (rs : List Row) (ls : List Line) where
   line-rules j =
       first (testLineOrder ls j) (cond (testLineStep rs j (lineAt ls j)) 0 25) 23 (line-order ls j) (final (testLineStep rs j (lineAt ls j)) 24 (line-step rs ls j))
 
-  each-row : ((i : ℕ) → i < length rs → linkFinding initial rs ls (suc i) (rowAt rs (suc i)) ≡ 0) →
-      (t : ℕ) → 1 ≤ t → t ≤ length rs → RowLinks initial rs ls t (rowAt rs t)
+  each-row : RowsPass initial rs ls → (t : ℕ) → 1 ≤ t → t ≤ length rs → RowLinks initial rs ls t (rowAt rs t)
   each-row h zero a b = absurd (omega arith)
   each-row h (suc i) a b = row-links (suc i) (rowAt rs (suc i)) .0 (h i b)
 

@@ -9,6 +9,7 @@
 --   `NextLink rs t x`              rule 32: next is 0, or a later touch from this step
 --   `Linked initial rs ls`         each line and each row keeps its rules
 --   `lineFinding`, `linkFinding`   the number of the first rule that a line, a row breaks, or 0
+--   `NoFinding initial rs ls`      no line and no row has one
 --
 -- Assumes nothing.
 use mathlib.Core.Path.{_≡_}
@@ -148,9 +149,16 @@ linkFinding initial rs ls t (FromStep x) = cond (testStepOrigin rs t x) (cond (t
 linkFinding initial rs ls t (Advice w) = 0
 linkFinding initial rs ls t AdviceEnd = 0
 
+-- no line has a finding, and no row
+abbrev pub LinesPass : List Row → List Line → Type 0
+LinesPass rs ls = (j : ℕ) → j < length ls → lineFinding rs ls j ≡ 0
+
+abbrev pub RowsPass : (ℕ → ℕ) → List Row → List Line → Type 0
+RowsPass initial rs ls = (i : ℕ) → i < length rs → linkFinding initial rs ls (suc i) (rowAt rs (suc i)) ≡ 0
+
 pub record NoFinding (initial : ℕ → ℕ) (rs : List Row) (ls : List Line) : Type 0 where
-  pub lines : (j : ℕ) → j < length ls → lineFinding rs ls j ≡ 0
-  pub rows : (i : ℕ) → i < length rs → linkFinding initial rs ls (suc i) (rowAt rs (suc i)) ≡ 0
+  pub lines : LinesPass rs ls
+  pub rows : RowsPass initial rs ls
 
 -- THE THEOREMS
 

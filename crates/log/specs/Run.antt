@@ -219,12 +219,13 @@ RunSound S = (M : Machine S) (rs : List Row) (ls : List Line) → Linked (M .ini
 
 -- every log of an accepting run keeps all rules
 abbrev pub RunComplete : Type 0 → Type 0
-RunComplete S = (M : Machine S) → Fourths M → (rs : List Row) (ls : List Line) (ws : List ℕ) → Logs M rs ls ws → Linked (M .initial) rs ls × Fits M rs
+RunComplete S = (M : Machine S) → Fourths M → (rs : List Row) (ls : List Line) (ws : List ℕ) →
+    Logs M rs ls ws → Linked (M .initial) rs ls × Fits M rs
 
 -- equal advice words make equal logs
 abbrev pub RunUnique : Type 0 → Type 0
-RunUnique S = (M : Machine S) → Fourths M → (rs rs′ : List Row) (ls ls′ : List Line) (ws ws′ : List ℕ) → Logs M rs ls ws → Logs M rs′ ls′ ws′ →
-    adviceOf rs ≡ adviceOf rs′ → (rs ≡ rs′) × (ls ≡ ls′)
+RunUnique S = (M : Machine S) → Fourths M → (rs rs′ : List Row) (ls ls′ : List Line) (ws ws′ : List ℕ) →
+    Logs M rs ls ws → Logs M rs′ ls′ ws′ → adviceOf rs ≡ adviceOf rs′ → (rs ≡ rs′) × (ls ≡ ls′)
 
 -- an accepting run has a log, of a row for each step
 abbrev pub RunLogged : Type 0 → Type 0

@@ -1,10 +1,11 @@
 // The link rules, tried on rows and lines that are at hand.
 ghost use lib.ListN.{length};
 ghost use mathlib.Core.Path.{_≡_};
-ghost use Prim.Native.Nat.{ℕ, _<_, suc};
+ghost use Prim.Native.Nat.{_<_};
 ghost use Rattle.std.specs.Orderings.{Decides};
 ghost use Rattle.log.specs.Log.{zeroed, IsLog};
-ghost use Rattle.log.specs.Rules.{rowAt, lineAt, testLineOrder, testLineStep, testLineOrigin, testStepOrigin, testNextLink, lineFinding, linkFinding};
+ghost use Rattle.log.specs.Rules.{rowAt, testLineOrder, testLineStep, testLineOrigin, testStepOrigin, testNextLink};
+ghost use Rattle.log.specs.Rules.{lineFinding, linkFinding, LinesPass, RowsPass};
 use dossier::record::Line;
 use dossier::record::Row;
 use dossier::record::Touch;
@@ -117,7 +118,7 @@ fn link_finding(rows: &[Row], lines: &[Line], t: usize) -> u8
 
 // Whether each line keeps its rules.
 fn lines_keep(rows: &[Row], lines: &[Line]) -> bool
-    ensures { λ r. ⌜ Decides r ((j : ℕ) → j < length (now (lines .entry)) → lineFinding (now (rows .entry)) (now (lines .entry)) j ≡ 0) ⌝ }
+    ensures { λ r. ⌜ Decides r (LinesPass (now (rows .entry)) (now (lines .entry))) ⌝ }
 {
     for j in 0..lines.len() {
         if line_finding(rows, lines, j) != 0 {
@@ -129,7 +130,7 @@ fn lines_keep(rows: &[Row], lines: &[Line]) -> bool
 
 // Whether each row keeps its link rules.
 fn rows_keep(rows: &[Row], lines: &[Line]) -> bool
-    ensures { λ r. ⌜ Decides r ((i : ℕ) → i < length (now (rows .entry)) → linkFinding zeroed (now (rows .entry)) (now (lines .entry)) (suc i) (rowAt (now (rows .entry)) (suc i)) ≡ 0) ⌝ }
+    ensures { λ r. ⌜ Decides r (RowsPass zeroed (now (rows .entry)) (now (lines .entry))) ⌝ }
 {
     for i in 0..rows.len() {
         if link_finding(rows, lines, i + 1) != 0 {
