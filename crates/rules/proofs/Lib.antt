@@ -5,3 +5,8 @@ pub mod AtStep
 pub mod AtRow
 pub mod Places
 pub mod AtUnit
+pub mod Taking
+pub mod Genuine
+pub mod Calls
+pub mod Acceptance
+pub mod Dossiers

@@ -1,4 +1,4 @@
--- Worked cases of a checking, over the definitions: the sample, and the sample with one number changed.
+-- Worked cases over the definitions: single steps, the checking of the sample, and that of the sample with one number changed.
 --   sample rows lines   the sample's program and bound, with these rows and lines, all readable
 -- Assumes nothing.
 use mathlib.Core.Path.{_≡_}
@@ -6,29 +6,19 @@ use mathlib.Core.List.{List, [], _∷_, map}
 use Prim.Native.Nat.{ℕ}
 use lib.ListN.{length}
 use Rattle.std.specs.declared.result.Result.the-variants.{Ok, Err}
-use Rattle.encoding.specs.declared.instruction.Instruction.{Instruction}
+use Rattle.machine.specs.Marked as steps
 use Rattle.dossier.specs.declared.record.Line.{Line}
 use Rattle.dossier.specs.declared.record.Row.{Row}
 use Rattle.dossier.specs.declared.refusal.Part.the-variants as part
 use Rattle.dossier.specs.Meaning.{Meaning}
 use Rattle.log.specs.Sample.{rowsWith, linesWith, sampleRows, sampleLines}
+use Rattle.tinyram.specs.Sample.{sampleProgram}
 use Rattle.rules.specs.declared.finding.Rule.the-variants as rule
 use Rattle.rules.specs.declared.finding.Finding.the-variants as finding
 use Rattle.rules.specs.declared.call.Call.the-variants.{Advance}
 use Rattle.rules.specs.declared.call.Refused.the-variants as refused-case
 use Rattle.rules.specs.declared.call.Outcome.the-variants as outcome
 use Rattle.rules.specs.Course.{begun, advanceAnswer, after, closing}
-
--- `read r1, 1`; `store.w 8, r1`; `load.b r2, 8`; `cmpe r2, 7`; `cnjmp 6`; `answer 0`; `answer 1`
-abbrev pub sampleProgram : List Instruction
-sampleProgram =
-    record { first = 0xF440_0000; second = 1 }
-    ∷ record { first = 0xE440_0000; second = 8 }
-    ∷ record { first = 0xDC80_0000; second = 8 }
-    ∷ record { first = 0x6C08_0000; second = 7 }
-    ∷ record { first = 0xB400_0000; second = 6 }
-    ∷ record { first = 0xFC00_0000; second = 0 }
-    ∷ record { first = 0xFC00_0000; second = 1 } ∷ []
 
 abbrev pub sample : List Row → List Line → Meaning
 sample rs ls = record {
@@ -40,6 +30,7 @@ sample rs ls = record {
 }
 
 pub record Marked : Type 0 where
+  pub step-cases : steps.Marked
   pub accepted : closing (after (sample sampleRows sampleLines) (Advance 14 ∷ [])) ≡ outcome.Accepted 6
   -- with row 2's next 0, row 3 does not come from where it says
   pub next : closing (after (sample (rowsWith 0) sampleLines) (Advance 14 ∷ [])) ≡ outcome.Found (finding.Broken rule.Origin part.Row 2)
