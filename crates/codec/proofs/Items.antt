@@ -3,7 +3,7 @@ use mathlib.Core.Path.{_≡_, refl, sym, ap, _∙_}
 use mathlib.Core.Bool.{Bool, false, cond, _&&_}
 use mathlib.Core.List.{List, [], _∷_}
 use Prim.Native.Nat.{ℕ, zero, suc, _+_, _-_, _*_, _≤_, _<_}
-use native.Mathlib.Nat.{mul-zero, mul-suc, add-zero}
+use native.Mathlib.Nat.{mul-zero, mul-suc, mul-add, mul-one}
 use native.Mathlib.Omega.{arith}
 use lib.Dec.{eqb}
 use lib.ListN.{length, getD, take, drop, length-take}
@@ -55,3 +55,10 @@ short-field t s f n bs h =
     let few : length cs < 3 + s = let e = length-take n bs in omega arith in
     let fails : (eqb (length cs) (3 + s) && (eqb (getD cs 0 0) t && eqb (getD cs 1 0 + getD cs 2 0 * 256) s)) ≡ false = grind (arith, tells) in
     ap (λ (b : Bool). cond b (f (drop 3 cs)) None) fails
+
+-- a loop that has come to place k has room for one more field
+pub in-room : (start z size at k n len : ℕ) → size ≡ z → at ≡ start + z * k → k < n → start + z * n ≤ len → at + size ≤ len
+in-room start z size at k n len e f h all = let r = room z k n h in omega arith
+
+pub one-on : (start z size at k : ℕ) → size ≡ z → at ≡ start + z * k → at + size ≡ start + z * (k + 1)
+one-on start z size at k e f = let a = mul-add z k 1 in let b = mul-one z in omega arith

@@ -23,7 +23,7 @@ use Rattle.field.proofs.Forms.{head-form, instruction-form, word-form, line-for
 use Rattle.codec.specs.Layout.{words-start, lines-start, rows-start, file-size}
 use Rattle.codec.specs.Held.{head-read, instruction-read, word-read, line-read, row-read, measured, head-of, items, held, meaning-of}
 use Rattle.codec.specs.Written.{head-bytes, instructions-bytes, words-bytes, lines-bytes, rows-bytes, written}
-use Rattle.codec.proofs.Parts.{bytes-take, read-back, read-only, length-part, part-here, part-next, part-whole}
+use Rattle.codec.proofs.PartForm.{bytes-take, read-back, read-only, length-part, part-here, part-next, part-whole}
 use Rattle.codec.proofs.Meant.{measured-some}
 
 written-size : (h : Head) (x : Item Head) (m : Meaning) → x ≡ Ok h → m .head ≡ x → Made m → Readable m → length (written m) ≡ file-size h

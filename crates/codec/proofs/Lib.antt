@@ -1,4 +1,6 @@
 pub mod Items
-pub mod Parts
+pub mod PartForm
 pub mod Meant
 pub mod Laws
+pub mod Faults
+pub mod Puts

@@ -17,7 +17,7 @@ use Rattle.field.specs.Payload.{head-payload, head-parsed, instruction-payload,
 use Rattle.field.proofs.Forms.{head-form, instruction-form, word-form, line-form, row-form}
 use Rattle.codec.specs.Layout.{words-start, lines-start, rows-start, file-size}
 use Rattle.codec.specs.Held.{head-read, measured, head-of, held, meaning-of}
-use Rattle.codec.proofs.Parts.{bytes-take, bytes-drop, read-fits, items-listed}
+use Rattle.codec.proofs.PartForm.{bytes-take, bytes-drop, read-fits, items-listed}
 
 whole : (h g : Head) (n : ℕ) (b : Bool) → eqb n (file-size h) ≡ b → cond b (Some h) None ≡ Some g → (h ≡ g) × (n ≡ file-size h)
 whole h g n true e is = (cc, eqb-true n (file-size h) e)

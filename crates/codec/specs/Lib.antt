@@ -1,3 +1,4 @@
 pub mod Layout
 pub mod Held
 pub mod Written
+pub mod Write
