@@ -4,3 +4,4 @@ pub mod Meant
 pub mod Laws
 pub mod Faults
 pub mod Puts
+pub mod Whole

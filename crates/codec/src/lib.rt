@@ -4,3 +4,4 @@ mod layout;
 pub mod listed;
 mod parts;
 pub mod refusal;
+pub mod writer;

@@ -41,7 +41,12 @@ fn put_item<K: Listed, D: Dossier>(dossier: &mut D, place: u32, field: &mut [u8]
 }
 
 // Writes the items of a part, field after field from `start` on, and answers where they end.
-pub fn put_part<K: Listed, D: Dossier>(dossier: &mut D, count: u32, start: usize, out: &mut [u8]) -> usize
+pub fn put_part<K: Listed, D: Dossier>(
+    dossier: &mut D,
+    count: u32,
+    start: usize,
+    out: &mut [u8],
+) -> usize
     requires rule { ⌜ D·Dossier .rule (now dossier) ⌝ }
     requires counts { ⌜ length (K·Listed .list (D·Dossier .meaning (now dossier))) ≡ count ⌝ }
     requires readable { ⌜ Each IsRecord (K·Listed .list (D·Dossier .meaning (now dossier))) ⌝ }

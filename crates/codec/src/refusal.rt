@@ -42,13 +42,7 @@ impl WriteRefusal {
                 Some(value) => Some(u64::from(value)),
                 None => None,
             },
-            WriteRefusal::Room { needed } => {
-                if place == 0 {
-                    Some(*needed)
-                } else {
-                    None
-                }
-            }
+            WriteRefusal::Room { needed } => { if place == 0 { Some(*needed) } else { None } }
         }
     }
 }

@@ -44,11 +44,12 @@ loop-place-again g c =
     let w = in-room (c .args .start) (3 + g .K·Kind .sized) size at place (c .args .count) (length (c .args .out .now)) e (inv .2) (c .loop-place-test .taken) (c .pre .room) in
     let long : at + size ≤ length out = omega (arith, c .loop-place .kept .out) in
     let within : place < length xs = omega (arith, c .pre .counts) in
-    let ys-is = c .put-item .ensures .bytes ∙ ap (λ (m : Meaning). put (k .tagged) (k .sized) (k .payload) (item-answer (g .K·Listed .stands) place (nth (g .K·Listed .list m) place)) (take (at + size - at) (drop at out))) (inv .1) in
-    (c .put-item .ensures .kept,
-     c .put-item .ensures .same ∙ inv .1,
-     one-on (c .args .start) (3 + g .K·Kind .sized) size at place e (inv .2),
-     put-more (k .tagged) (k .sized) (k .numbers) (k .payload) (k .parsed) (g .K·Kind·met .form) (g .K·Listed .stands) place at size (at + size - at) xs out (c .put-item .last .field) (take (c .args .start) (c .args .out .now)) e long within (c .pre .readable) (inv .3) ys-is)
+    let ys-is = c .put-item .ensures .bytes ∙ ap (λ (m : Meaning). put (k .tagged) (k .sized) (k .payload) (item-answer (g .K·Listed .stands) place (nth (g .K·Listed .list m) place)) (take (at + size - at) (drop at out))) (inv .1) in (
+      c .put-item .ensures .kept,
+      c .put-item .ensures .same ∙ inv .1,
+      one-on (c .args .start) (3 + g .K·Kind .sized) size at place e (inv .2),
+      put-more (k .tagged) (k .sized) (k .numbers) (k .payload) (k .parsed) (g .K·Kind·met .form) (g .K·Listed .stands) place at size (at + size - at) xs out (c .put-item .last .field) (take (c .args .start) (c .args .out .now)) e long within (c .pre .readable) (inv .3) ys-is,
+    )
 
 pub returns : need.returns
 returns g c =
