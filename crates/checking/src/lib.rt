@@ -1,0 +1,3 @@
+// The checking of a dossier from its questions alone, by turns.
+mod line;
+mod unit;
