@@ -1,4 +1,6 @@
 // The checking of a dossier from its questions alone, by turns.
+mod begin;
+pub mod checking;
 mod line;
 mod link;
 mod row;
