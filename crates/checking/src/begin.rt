@@ -1,5 +1,7 @@
 // How a checking begins, and when it may go on.
 ghost use mathlib.Core.Path.{_≡_};
+ghost use Prim.Native.Nat.{_+_, _^_, _<_};
+ghost use Rattle.std.specs.declared.result.Result.the-variants.{Ok};
 ghost use Rattle.rules.specs.Course.{inLimits, stopped, begunBy, refused, left};
 ghost use Rattle.checking.specs.Taking.{admitted};
 use dossier::record::Head;
@@ -77,14 +79,16 @@ pub(crate) fn begin_under(answer: Result<Head, Refusal>) -> Progress
 
 // The units that are not yet taken.
 pub(crate) fn left_of(progress: &Progress) -> u32
-    ensures { λ r. ⌜ r ≡ left (now (progress .entry)) ⌝ }
+    ensures value { λ r. ⌜ r ≡ left (now (progress .entry)) ⌝ }
+    ensures fits { λ _. ⌜ now (progress .entry) .total < 2 ^ 32 ⌝ }
 {
     progress.total.saturating_sub(progress.taken)
 }
 
 // Refuses an advance after a finding, by 0, and by more than is left.
 pub(crate) fn admit(progress: &Progress, k: u32) -> Result<(), Refused>
-    ensures { λ r. ⌜ r ≡ admitted (refused (now (progress .entry)) k) ⌝ }
+    ensures answer { λ r. ⌜ r ≡ admitted (refused (now (progress .entry)) k) ⌝ }
+    ensures few { λ r. ⌜ (r ≡ Ok tt → now (progress .entry) .taken + k < 2 ^ 32) ⌝ }
 {
     let left = left_of(progress);
     match progress.finding {

@@ -6,7 +6,7 @@ ghost use lib.Dec.{eqb};
 ghost use Rattle.rules.specs.Units.{placeOf, entered};
 ghost use Rattle.rules.specs.Checks.{judged, checked};
 ghost use Rattle.rules.specs.Course.{begun, nextUnit, took, taking, advanced, advanceAnswer, reported, closing};
-ghost use Rattle.checking.specs.Taking.{inStage, settled, passed};
+ghost use Rattle.checking.specs.Taking.{inStage, stageNow, checkedNow, settled, passed};
 use crate::begin::admit;
 use crate::begin::begin_under;
 use crate::begin::left_of;
@@ -78,5 +78,89 @@ impl<D: Dossier> Checking<D> {
             _ => {}
         }
         Ok(())
+    }
+
+    // Checks the next unit in its stage.
+    fn check_unit(&mut self) -> Result<(), Finding>
+        requires rule { ⌜ D·Dossier .rule (now self .dossier) ⌝ }
+        requires few { ⌜ now self .progress .taken + 1 < 2 ^ 32 ⌝ }
+        ensures kept { λ _. ⌜ D·Dossier .rule (now (self .exit) .dossier) ⌝ }
+        ensures same { λ _. ⌜ D·Dossier .meaning (now (self .exit) .dossier) ≡ D·Dossier .meaning (now (self .entry) .dossier) ⌝ }
+        ensures progress { λ _. ⌜ now (self .exit) .progress ≡ inStage (now (self .entry) .progress) (settled (stageNow (now (self .entry) .progress)) (checkedNow (D·Dossier .meaning (now (self .entry) .dossier)) (now (self .entry) .progress))) ⌝ }
+        ensures answer { λ r. ⌜ r ≡ passed (checkedNow (D·Dossier .meaning (now (self .entry) .dossier)) (now (self .entry) .progress)) ⌝ }
+    {
+        let unit = unit_at(self.progress.head, self.progress.taken);
+        self.progress.stage = enter(unit, self.progress.stage);
+        let item = item_at(&mut self.dossier, unit)?;
+        self.judge(unit, item)
+    }
+
+    // Takes the next unit, or finds something at it.
+    fn take(&mut self)
+        requires rule { ⌜ D·Dossier .rule (now self .dossier) ⌝ }
+        requires few { ⌜ now self .progress .taken + 1 < 2 ^ 32 ⌝ }
+        ensures kept { λ _. ⌜ D·Dossier .rule (now (self .exit) .dossier) ⌝ }
+        ensures same { λ _. ⌜ D·Dossier .meaning (now (self .exit) .dossier) ≡ D·Dossier .meaning (now (self .entry) .dossier) ⌝ }
+        ensures progress { λ _. ⌜ now (self .exit) .progress ≡ took (D·Dossier .meaning (now (self .entry) .dossier)) (now (self .entry) .progress) ⌝ }
+    {
+        match self.check_unit() {
+            Ok(()) => self.progress.taken += 1,
+            Err(finding) => self.progress.finding = Some(finding),
+        }
+    }
+
+    // Takes the next `k` units, or up to a finding.
+    fn take_units(&mut self, k: u32)
+        requires rule { ⌜ D·Dossier .rule (now self .dossier) ⌝ }
+        requires few { ⌜ now self .progress .taken + k < 2 ^ 32 ⌝ }
+        ensures kept { λ _. ⌜ D·Dossier .rule (now (self .exit) .dossier) ⌝ }
+        ensures same { λ _. ⌜ D·Dossier .meaning (now (self .exit) .dossier) ≡ D·Dossier .meaning (now (self .entry) .dossier) ⌝ }
+        ensures progress { λ _. ⌜ now (self .exit) .progress ≡ taking (D·Dossier .meaning (now (self .entry) .dossier)) (now (self .entry) .progress) k ⌝ }
+    {
+        for _ in 0..k {
+            if self.progress.finding.is_some() {
+                return;
+            }
+            self.take();
+        }
+    }
+
+    // Takes the next `k` units and answers `k`, or stops at a finding and answers that.
+    pub fn advance(&mut self, k: u32) -> Result<Advanced, Refused>
+        requires { ⌜ D·Dossier .rule (now self .dossier) ⌝ }
+        ensures kept { λ _. ⌜ D·Dossier .rule (now (self .exit) .dossier) ⌝ }
+        ensures same { λ _. ⌜ D·Dossier .meaning (now (self .exit) .dossier) ≡ D·Dossier .meaning (now (self .entry) .dossier) ⌝ }
+        ensures progress { λ _. ⌜ now (self .exit) .progress ≡ advanced (D·Dossier .meaning (now (self .entry) .dossier)) (now (self .entry) .progress) k ⌝ }
+        ensures answer { λ r. ⌜ r ≡ advanceAnswer (D·Dossier .meaning (now (self .entry) .dossier)) (now (self .entry) .progress) k ⌝ }
+    {
+        admit(&self.progress, k)?;
+        self.take_units(k);
+        Ok(
+            match self.progress.finding {
+                Some(finding) => Advanced::Found(finding),
+                None => Advanced::Took(k),
+            },
+        )
+    }
+
+    // Tells the units taken and left, and the finding, if there is one.
+    pub fn ask(&self) -> Report
+        ensures { λ r. ⌜ r ≡ reported (now (self .entry) .progress) ⌝ }
+    {
+        Report {
+            taken: self.progress.taken,
+            left: left_of(&self.progress),
+            finding: self.progress.finding,
+        }
+    }
+
+    // Uses the checking up.
+    pub fn close(self) -> Verdict
+    where
+        D: Drop,
+        ensures outcome { λ r. ⌜ r .outcome ≡ closing (self .progress) ⌝ }
+        ensures head { λ r. ⌜ r .head ≡ self .progress .head ⌝ }
+    {
+        Verdict::new(&self.progress)
     }
 }
