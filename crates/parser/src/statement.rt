@@ -49,7 +49,11 @@ fn read_three<'a>(mnemonic: Mnemonic, s: &'a str, width: usize) -> Option<(State
 }
 
 // `ri, A`, where ri is compared
-fn read_compare<'a>(mnemonic: Mnemonic, s: &'a str, width: usize) -> Option<(Statement<'a>, &'a str)>
+fn read_compare<'a>(
+    mnemonic: Mnemonic,
+    s: &'a str,
+    width: usize,
+) -> Option<(Statement<'a>, &'a str)>
     ensures { λ r. ⌜ mapped viewRead r ≡ compareIn mnemonic width (now (s .entry)) ⌝ }
 {
     let (source, s) = read_register(s, width)?;
@@ -110,7 +114,11 @@ fn read_one<'a>(mnemonic: Mnemonic, s: &'a str, width: usize) -> Option<(Stateme
     Some((statement, s))
 }
 
-fn read_operands<'a>(mnemonic: Mnemonic, s: &'a str, width: usize) -> Option<(Statement<'a>, &'a str)>
+fn read_operands<'a>(
+    mnemonic: Mnemonic,
+    s: &'a str,
+    width: usize,
+) -> Option<(Statement<'a>, &'a str)>
     ensures { λ r. ⌜ mapped viewRead r ≡ operandsIn mnemonic width (now (s .entry)) ⌝ }
 {
     match mnemonic {
