@@ -2,7 +2,6 @@
 ghost use mathlib.Core.Path.{_≡_};
 ghost use mathlib.Core.List.{[], _∷_, _++_};
 ghost use Prim.Native.Nat.{_<_};
-ghost use lib.Dec.{ltb};
 ghost use lib.ListN.{length};
 ghost use Rattle.assembler.specs.Labels.{known, found, summary, none};
 use crate::labels::Labels;
@@ -32,21 +31,22 @@ impl<'a> Labels<'a> {
         None
     }
 
-    pub(crate) fn has_room(&self) -> bool
-        ensures known { λ r. ⌜ r ≡ ltb (length (known (now (self .entry)))) 256 ⌝ }
-        ensures len { λ r. ⌜ r ≡ ltb (now (self .entry) .len) 256 ⌝ }
+    // How many labels there are.
+    pub(crate) fn size(&self) -> usize
+        ensures known { λ r. ⌜ r ≡ length (known (now (self .entry))) ⌝ }
+        ensures len { λ r. ⌜ r ≡ now (self .entry) .len ⌝ }
     {
-        self.len < 256
+        self.len
     }
 
-    // Adds a label that stands for the next instruction.
-    pub(crate) fn add(&mut self, name: &'a str)
+    // Adds a label that stands for `number`.
+    pub(crate) fn add(&mut self, name: &'a str, number: u32)
         requires { ⌜ now self .len < 256 ⌝ }
-        ensures labels { λ _. ⌜ known (now (self .exit)) ≡ known (now (self .entry)) ++ (now (name .entry), now (self .entry) .count) ∷ [] ⌝ }
+        ensures labels { λ _. ⌜ known (now (self .exit)) ≡ known (now (self .entry)) ++ (now (name .entry), number) ∷ [] ⌝ }
         ensures count { λ _. ⌜ now (self .exit) .count ≡ now (self .entry) .count ⌝ }
     {
         self.names[self.len] = name;
-        self.numbers[self.len] = self.count;
+        self.numbers[self.len] = number;
         self.len += 1;
     }
 }

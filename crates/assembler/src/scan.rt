@@ -26,10 +26,11 @@ fn define<'a>(
     if known.find(word.text).is_some() {
         return Err(AssemblyError::Redefined(n));
     }
-    if !known.has_room() {
+    if known.size() >= 256 {
         return Err(AssemblyError::TooMany(n));
     }
-    known.add(word.text);
+    let number = known.count;
+    known.add(word.text, number);
     Ok(())
 }
 

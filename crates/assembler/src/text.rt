@@ -1,5 +1,6 @@
 // The whole text.
 ghost use mathlib.Core.Path.{_≡_};
+ghost use lib.Dec.{ltb};
 ghost use lib.ListN.{length};
 ghost use Rattle.std.specs.shelf.Text.{sameBytes};
 ghost use Rattle.assembler.specs.Labels.{summary, none};
@@ -37,6 +38,12 @@ fn prepare<'a>(labels: &mut Labels<'a>, text: &'a str) -> Result<usize, Assembly
     }
 }
 
+fn is_short(size: usize, needed: usize) -> bool
+    ensures { λ r. ⌜ r ≡ ltb size needed ⌝ }
+{
+    size < needed
+}
+
 // Assembles a text into a lent table, and answers the length of the program. The entries
 // beyond it stay, and all stay where the text is refused.
 pub fn assemble(text: &str, table: &mut [Instruction]) -> Result<usize, AssemblyError>
@@ -45,7 +52,7 @@ pub fn assemble(text: &str, table: &mut [Instruction]) -> Result<usize, Assembly
 {
     let mut labels = Labels::new();
     let needed = prepare(&mut labels, text)?;
-    if table.len() < needed {
+    if is_short(table.len(), needed) {
         return Err(AssemblyError::TableTooShort(needed));
     }
     let (_, rest) = next_line(text);

@@ -1,7 +1,7 @@
 use native.Mathlib.Omega.{arith}
 use borrow.Author.Needs.{needs}
 use Rattle.assembler.proofs.Tables.{length-paired}
-use Rattle.assembler.proofs.labels.Labels.has_room.Needs as need
+use Rattle.assembler.proofs.labels.Labels.size.Needs as need
 
 pub returns : need.returns
 returns c =
