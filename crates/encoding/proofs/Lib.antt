@@ -1,4 +1,4 @@
-mod Options
+pub mod Options
 mod Codes
-mod Inverse
-mod Formed
+pub mod Inverse
+pub mod Formed

@@ -1,4 +1,4 @@
 // Instructions: the two words that they are stored as, and the operations that these say.
 pub mod instruction;
-mod mnemonic;
+pub mod mnemonic;
 pub mod operation;

@@ -102,7 +102,7 @@ fn pack(mnemonic: Mnemonic, i: u8, j: u8, a: Operand) -> Instruction
 }
 
 // The instruction with the registers `i` and `j` and the operand `a`, if these are registers.
-fn place(mnemonic: Mnemonic, i: u8, j: u8, a: Operand) -> Option<Instruction>
+pub fn place(mnemonic: Mnemonic, i: u8, j: u8, a: Operand) -> Option<Instruction>
     ensures { λ r. ⌜ r ≡ placed mnemonic i j a ⌝ }
 {
     if i < 16 && j < 16 && a.is_named() {

@@ -1,0 +1,5 @@
+mod Tables
+mod Turns
+mod Overlays
+mod Fronts
+mod Whole
