@@ -1,11 +1,13 @@
 // A checking, which takes a dossier's units by turns.
 ghost use mathlib.Core.Path.{_≡_};
 ghost use Prim.Native.Nat.{_<_, _^_, _+_};
+ghost use Rattle.dossier.specs.Meaning.{Made};
 ghost use Rattle.log.specs.Rules.{kindOf};
 ghost use lib.Dec.{eqb};
 ghost use Rattle.rules.specs.Units.{placeOf, entered};
 ghost use Rattle.rules.specs.Checks.{judged, checked};
 ghost use Rattle.rules.specs.Course.{begun, nextUnit, took, taking, advanced, advanceAnswer, reported, closing};
+ghost use Rattle.checking.specs.Laws.{Advances, ClosesAt};
 ghost use Rattle.checking.specs.Taking.{inStage, stageNow, checkedNow, settled, passed};
 use crate::begin::admit;
 use crate::begin::begin_under;
@@ -47,6 +49,7 @@ impl<D: Dossier> Checking<D> {
         ensures kept { λ r. ⌜ D·Dossier .rule (r .dossier) ⌝ }
         ensures same { λ r. ⌜ D·Dossier .meaning (r .dossier) ≡ D·Dossier .meaning dossier ⌝ }
         ensures progress { λ r. ⌜ r .progress ≡ begun (D·Dossier .meaning dossier) ⌝ }
+        ensures made { λ _. ⌜ Made (D·Dossier .meaning dossier) ⌝ }
     {
         let mut dossier = dossier;
         let progress = begin_under(dossier.head());
@@ -125,8 +128,31 @@ impl<D: Dossier> Checking<D> {
         }
     }
 
+    // Asks for the head, which tells that it counts the lists and that all numbers fit.
+    fn recall(&mut self)
+        requires { ⌜ D·Dossier .rule (now self .dossier) ⌝ }
+        ensures kept { λ _. ⌜ D·Dossier .rule (now (self .exit) .dossier) ⌝ }
+        ensures same { λ _. ⌜ D·Dossier .meaning (now (self .exit) .dossier) ≡ D·Dossier .meaning (now (self .entry) .dossier) ⌝ }
+        ensures progress { λ _. ⌜ now (self .exit) .progress ≡ now (self .entry) .progress ⌝ }
+        ensures made { λ _. ⌜ Made (D·Dossier .meaning (now (self .entry) .dossier)) ⌝ }
+    {
+        let _ = self.dossier.head();
+    }
+
     // Takes the next `k` units and answers `k`, or stops at a finding and answers that.
     pub fn advance(&mut self, k: u32) -> Result<Advanced, Refused>
+        requires { ⌜ D·Dossier .rule (now self .dossier) ⌝ }
+        ensures kept { λ _. ⌜ D·Dossier .rule (now (self .exit) .dossier) ⌝ }
+        ensures same { λ _. ⌜ D·Dossier .meaning (now (self .exit) .dossier) ≡ D·Dossier .meaning (now (self .entry) .dossier) ⌝ }
+        ensures progress { λ _. ⌜ now (self .exit) .progress ≡ advanced (D·Dossier .meaning (now (self .entry) .dossier)) (now (self .entry) .progress) k ⌝ }
+        ensures answer { λ r. ⌜ r ≡ advanceAnswer (D·Dossier .meaning (now (self .entry) .dossier)) (now (self .entry) .progress) k ⌝ }
+        ensures law { λ r. ⌜ Advances (D·Dossier .meaning (now (self .entry) .dossier)) (now (self .entry) .progress) k r ⌝ }
+    {
+        self.recall();
+        self.move_on(k)
+    }
+
+    fn move_on(&mut self, k: u32) -> Result<Advanced, Refused>
         requires { ⌜ D·Dossier .rule (now self .dossier) ⌝ }
         ensures kept { λ _. ⌜ D·Dossier .rule (now (self .exit) .dossier) ⌝ }
         ensures same { λ _. ⌜ D·Dossier .meaning (now (self .exit) .dossier) ≡ D·Dossier .meaning (now (self .entry) .dossier) ⌝ }
@@ -155,12 +181,15 @@ impl<D: Dossier> Checking<D> {
     }
 
     // Uses the checking up.
-    pub fn close(self) -> Verdict
+    pub fn close(mut self) -> Verdict
     where
         D: Drop,
+        requires { ⌜ D·Dossier .rule (self .dossier) ⌝ }
         ensures outcome { λ r. ⌜ r .outcome ≡ closing (self .progress) ⌝ }
         ensures head { λ r. ⌜ r .head ≡ self .progress .head ⌝ }
+        ensures law { λ r. ⌜ ClosesAt (D·Dossier .meaning (self .dossier)) (self .progress) (r .outcome) ⌝ }
     {
+        self.recall();
         Verdict::new(&self.progress)
     }
 }

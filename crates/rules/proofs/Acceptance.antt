@@ -25,11 +25,12 @@ use Rattle.rules.specs.declared.finding.Rule.the-variants as rule
 use Rattle.rules.specs.declared.finding.Finding.{Finding}
 use Rattle.rules.specs.declared.progress.Progress.{Progress}
 use Rattle.rules.specs.declared.call.Call.{Call}
+use Rattle.rules.specs.declared.call.Call.the-variants.{Advance}
 use Rattle.rules.specs.declared.call.Advanced.the-variants as advanced-case
 use Rattle.rules.specs.declared.call.Outcome.{Outcome}
 use Rattle.rules.specs.declared.call.Outcome.the-variants as outcome
 use Rattle.rules.specs.Units.{units}
-use Rattle.rules.specs.Course.{inLimits, stopped, ready, noHead, begunBy, begun, left, told, closingBy, closing, afterFrom, after, takenFrom, takenBy, advanceAnswer}
+use Rattle.rules.specs.Course.{inLimits, stopped, ready, noHead, begunBy, begun, left, told, closingBy, closing, afterFrom, after, amount, takenFrom, takenBy, advanceAnswer}
 use Rattle.rules.specs.Laws.{recordOr, program, primary, lines, rows, everyUnit, Limits, Within, HeadWithin, Genuine, Closes, Acceptance, Advancing}
 use Rattle.log.specs.Words.{Exactly}
 use Rattle.rules.proofs.Whole.{whole, is-whole}
@@ -165,7 +166,7 @@ never m cs f e T c =
     let s = says (after m cs) T c .none in
     no-none f (sym e ∙ ap (λ q. q .finding) (sym (after-found m (begun m) f e cs)) ∙ s)
 
-stopped-closes : (m : Meaning) (cs : List Call) (f : Finding) → begun m .finding ≡ Some f → (HeadWithin (m .head) → ⊥) → Closes m cs
+stopped-closes : (m : Meaning) (cs : List Call) (f : Finding) → begun m .finding ≡ Some f → (HeadWithin (m .head) → ⊥) → Closes m cs (closing (after m cs))
 stopped-closes m cs f e n = record {
   accepted = (λ c. never m cs f e (length (m .rows)) c, λ t. absurd (n (t .1 .limits)));
   steps = λ T c. never m cs f e T c;
@@ -232,7 +233,7 @@ module _ (m : Meaning) (mk : Made m) (h : Head) (e : m .head ≡ Ok h) (lim : in
         steps = ap (λ x. x .head .rows) q ∙ ap (λ x. x .rows) (r .head) ∙ sym (row-count m mk h e);
       })
 
-  begun-closes : (cs : List Call) → Closes m cs
+  begun-closes : (cs : List Call) → Closes m cs (closing (after m cs))
   begun-closes cs = record {
     accepted = (to-genuine cs, λ t. from-genuine cs (t .0) (t .1));
     steps = λ T c. sym (all-taken cs T c .1) ∙ sym (row-count m mk h e);
@@ -249,14 +250,14 @@ module _ (m : Meaning) (mk : Made m) (h : Head) (e : m .head ≡ Ok h) (lim : in
 
 -- THE LAWS
 
-by-limits : (m : Meaning) → Made m → (h : Head) → m .head ≡ Ok h → (b : Bool) → inLimits h ≡ b → (cs : List Call) → Closes m cs
+by-limits : (m : Meaning) → Made m → (h : Head) → m .head ≡ Ok h → (b : Bool) → inLimits h ≡ b → (cs : List Call) → Closes m cs (closing (after m cs))
 by-limits m mk h e true lim cs = begun-closes m mk h e lim cs
 by-limits m mk h e false lim cs =
     let s : begun m ≡ stopped h rule.Limits = ap (λ x. begunBy (item-answer part.Head 0 (Some x))) e ∙ rw lim in
     stopped-closes m cs _ (ap (λ q. q .finding) s)
     (λ w. let t = limits-in h (subst HeadWithin e w) in let z : _≡_ {A = ℕ} 0 1 = cc in omega arith)
 
-by-head : (m : Meaning) → Made m → (x : Item Head) → m .head ≡ x → (cs : List Call) → Closes m cs
+by-head : (m : Meaning) → Made m → (x : Item Head) → m .head ≡ x → (cs : List Call) → Closes m cs (closing (after m cs))
 by-head m mk (Ok h) e cs = by-limits m mk h e (inLimits h) refl cs
 by-head m mk (Err l) e cs =
     let s : begun m ≡ stopped noHead rule.Head = ap (λ x. begunBy (item-answer part.Head 0 (Some x))) e in
@@ -271,3 +272,24 @@ advances-by m mk g (Err x) e cs k one l = absurd (subst HeadWithin e (g .limits)
 
 pub advancing : Advancing
 advancing m mk g cs k one l = advances-by m mk g (m .head) refl cs k one l
+
+-- ALL UNITS AT ONCE
+
+left-by : (m : Meaning) → Made m → Genuine m → (x : Item Head) → m .head ≡ x → (left (begun m) ≡ everyUnit m) × (1 ≤ everyUnit m)
+left-by m mk g (Ok h) e =
+    let w : Within h = subst HeadWithin e (g .limits) in
+    let b = ap left (begins m mk h e (limits-in h w)) in
+    let u = every m mk h e in
+    let o = w .limits .some in
+    (omega arith, omega arith)
+left-by m mk g (Err x) e = absurd (subst HeadWithin e (g .limits))
+
+pub all-at-once : (m : Meaning) → Made m → Exactly (closing (after m (Advance (left (begun m)) ∷ [])) ≡ outcome.Accepted (length (m .rows))) (Genuine m)
+all-at-once m mk = (
+  λ c. acceptance m mk (Advance (left (begun m)) ∷ []) .accepted .0 c .1,
+  λ g.
+      let (l, one) = left-by m mk g (m .head) refl in
+      let a = advancing m mk g [] (left (begun m)) (omega arith) (omega arith) in
+      let t : takenBy m (Advance (left (begun m)) ∷ []) ≡ everyUnit m = omega (arith, ap amount a) in
+      acceptance m mk (Advance (left (begun m)) ∷ []) .accepted .1 (t, g),
+)

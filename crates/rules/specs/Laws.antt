@@ -27,6 +27,7 @@ use Rattle.log.specs.Words.{Exactly}
 use Rattle.tinyram.specs.Program.{AcceptsIn, LogsRun}
 use Rattle.rules.specs.declared.call.Call.{Call}
 use Rattle.rules.specs.declared.call.Advanced.the-variants as advanced-case
+use Rattle.rules.specs.declared.call.Outcome.{Outcome}
 use Rattle.rules.specs.declared.call.Outcome.the-variants as outcome
 use Rattle.rules.specs.Course.{after, takenBy, advanceAnswer, closing}
 
@@ -88,12 +89,13 @@ pub record Genuine (m : Meaning) : Type 0 where
 
 -- ACCEPTANCE
 
-pub record Closes (m : Meaning) (cs : List Call) : Type 0 where
-  pub accepted : Exactly (closing (after m cs) ≡ outcome.Accepted (length (m .rows))) ((takenBy m cs ≡ everyUnit m) × Genuine m)
-  pub steps : (T : ℕ) → closing (after m cs) ≡ outcome.Accepted T → T ≡ length (m .rows)
+-- what a close says after the calls cs
+pub record Closes (m : Meaning) (cs : List Call) (o : Outcome) : Type 0 where
+  pub accepted : Exactly (o ≡ outcome.Accepted (length (m .rows))) ((takenBy m cs ≡ everyUnit m) × Genuine m)
+  pub steps : (T : ℕ) → o ≡ outcome.Accepted T → T ≡ length (m .rows)
 
 abbrev pub Acceptance : Type 0
-Acceptance = (m : Meaning) → Made m → (cs : List Call) → Closes m cs
+Acceptance = (m : Meaning) → Made m → (cs : List Call) → Closes m cs (closing (after m cs))
 
 -- an advance by any k from 1 to the units not yet taken answers k
 abbrev pub Advancing : Type 0

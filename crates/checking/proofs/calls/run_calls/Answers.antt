@@ -1,7 +1,9 @@
-use mathlib.Core.Path.{ap, _∙_}
+use mathlib.Core.Path.{ap, _∙_, sym, subst}
 use Rattle.rules.specs.declared.call.Call.the-variants.{Advance}
 use Rattle.rules.specs.declared.progress.Progress.{Progress}
 use Rattle.rules.specs.Course.{afterFrom, closing}
+use Rattle.rules.specs.Laws.{Closes}
+use Rattle.rules.proofs.Acceptance.{acceptance}
 use Rattle.checking.proofs.Made.{one-made, all-made}
 use Rattle.checking.proofs.calls.run_calls.Needs as need
 
@@ -21,7 +23,9 @@ returns g c =
     let m = g .D·Dossier .meaning (c .args .dossier) in
     let n = g .D·Dossier .meaning (c .begin-checking .result .dossier) in
     let made = all-made m n (c .loop-call .checking .progress) (c .begin-checking .result .progress) (c .args .calls .now) (c .loop-call .call-index) (c .loop-call-test .left) (c .loop-call .kept .call-index-end) (c .begin-checking .ensures .same) (c .begin-checking .ensures .progress) (c .loop-call .inv .2) in
+    let said = c .close .ensures .outcome ∙ ap closing made in
     record {
-      outcome = c .close .ensures .outcome ∙ ap closing made;
+      outcome = said;
       head = c .close .ensures .head ∙ ap (λ (x : Progress). x .head) made;
+      law = subst (Closes m (c .args .calls .now)) (sym said) (acceptance m (c .begin-checking .ensures .made) (c .args .calls .now));
     }
