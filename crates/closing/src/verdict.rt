@@ -71,8 +71,8 @@ impl Verdict {
         }
     }
 
-    // Spends the verdict without a receipt.
-    pub fn set_aside(mut self) {
-        self.spent = true;
+    // Spends the verdict and shows nothing of it.
+    pub fn set_aside(self) {
+        let _ = self.receipt();
     }
 }
