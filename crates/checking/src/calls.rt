@@ -4,7 +4,7 @@ ghost use mathlib.Core.List.{[], _∷_};
 ghost use Rattle.rules.specs.declared.call.Call.the-variants.{Advance};
 ghost use Rattle.rules.specs.Course.{begun, called, after, left, closing};
 use crate::checking::Checking;
-use closing::verdict::Verdict;
+use course::verdict::Verdict;
 use dossier::questions::Dossier;
 use rules::call::Call;
 

@@ -2,7 +2,7 @@
 ghost use mathlib.Core.List.{List};
 ghost use Prim.Native.Nat.{ℕ};
 ghost use Rattle.std.specs.declared.option.Option.the-variants.{Some};
-ghost use Rattle.closing.specs.Receipt.{findingText, lastLine, receiptText};
+ghost use Rattle.course.specs.Receipt.{findingText, lastLine, receiptText};
 use crate::number::part_number;
 use crate::number::rule_number;
 use dossier::record::Head;

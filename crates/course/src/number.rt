@@ -5,7 +5,7 @@ ghost use Prim.Native.Nat.{ℕ};
 ghost use denote.Ref.{now};
 ghost use Rattle.std.specs.Finite.{nth};
 ghost use Rattle.dossier.specs.Meaning.{part-number};
-ghost use Rattle.closing.specs.Numbers.{rule-number, finding-number, finding-values, refused-number, refused-values};
+ghost use Rattle.course.specs.Numbers.{rule-number, finding-number, finding-values, refused-number, refused-values};
 use dossier::refusal::Part;
 use rules::call::Refused;
 use rules::finding::Finding;

@@ -1,8 +1,8 @@
 use mathlib.Core.Path.{sym, subst}
 use Rattle.std.specs.Written.{Put}
 use Rattle.rules.specs.declared.call.Outcome.{Outcome}
-use Rattle.closing.specs.Receipt.{lastLine}
-use Rattle.closing.proofs.receipt.LastLineDisplay.fmt.Needs as need
+use Rattle.course.specs.Receipt.{lastLine}
+use Rattle.course.proofs.receipt.LastLineDisplay.fmt.Needs as need
 
 pub returns-in-Unfinished : need.returns-in-Unfinished
 returns-in-Unfinished g c = λ plain ok.

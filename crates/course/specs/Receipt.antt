@@ -14,8 +14,8 @@ use Rattle.rules.specs.declared.finding.Finding.{Finding}
 use Rattle.rules.specs.declared.finding.Finding.the-variants.{Broken, Unreadable}
 use Rattle.rules.specs.declared.call.Outcome.{Outcome}
 use Rattle.rules.specs.declared.call.Outcome.the-variants.{Accepted, Found, Unfinished}
-use Rattle.closing.specs.declared.receipt.Receipt.{Receipt}
-use Rattle.closing.specs.Numbers.{rule-number}
+use Rattle.course.specs.declared.receipt.Receipt.{Receipt}
+use Rattle.course.specs.Numbers.{rule-number}
 
 abbrev pub findingText : Finding → List ℕ
 findingText (Broken r p k) =

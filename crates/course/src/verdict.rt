@@ -2,6 +2,7 @@
 ghost use mathlib.Core.Path.{_≡_};
 ghost use mathlib.Core.Bool.{true};
 ghost use Rattle.rules.specs.Course.{closing};
+use crate::begin::left_of;
 use crate::receipt::Receipt;
 use dossier::record::Head;
 use rules::call::Outcome;
@@ -34,7 +35,7 @@ fn close_at(progress: &Progress) -> Outcome
     if let Some(finding) = progress.finding {
         return Outcome::Found(finding);
     }
-    match progress.total.saturating_sub(progress.taken) {
+    match left_of(progress) {
         0 => Outcome::Accepted(progress.head.rows),
         left => Outcome::Unfinished(left),
     }

@@ -6,8 +6,8 @@ use lib.Chars.{codes}
 use Rattle.std.specs.Written.{Put, decimal}
 use Rattle.dossier.specs.Meaning.{part-number}
 use Rattle.rules.specs.declared.finding.Finding.{Finding}
-use Rattle.closing.specs.Receipt.{findingText}
-use Rattle.closing.proofs.receipt.ShownDisplay.fmt.Needs as need
+use Rattle.course.specs.Receipt.{findingText}
+use Rattle.course.proofs.receipt.ShownDisplay.fmt.Needs as need
 
 abbrev text : ℕ → ℕ → ℕ → ℕ → ℕ → List ℕ
 text p k q j l =

@@ -3,7 +3,7 @@ ghost use mathlib.Core.Path.{_≡_};
 ghost use Prim.Native.Nat.{_+_, _^_, _<_};
 ghost use Rattle.std.specs.declared.result.Result.the-variants.{Ok};
 ghost use Rattle.rules.specs.Course.{inLimits, stopped, begunBy, refused, left};
-ghost use Rattle.checking.specs.Taking.{admitted};
+ghost use Rattle.course.specs.Admitted.{admitted};
 use dossier::record::Head;
 use dossier::refusal::Part;
 use dossier::refusal::Refusal;
@@ -61,7 +61,7 @@ fn stop(head: Head, rule: Rule) -> Progress
 }
 
 // The beginning of a checking under a head, or under none.
-pub(crate) fn begin_under(answer: Result<Head, Refusal>) -> Progress
+pub fn begin_under(answer: Result<Head, Refusal>) -> Progress
     ensures { λ r. ⌜ r ≡ begunBy answer ⌝ }
 {
     match answer {
@@ -78,7 +78,7 @@ pub(crate) fn begin_under(answer: Result<Head, Refusal>) -> Progress
 }
 
 // The units that are not yet taken.
-pub(crate) fn left_of(progress: &Progress) -> u32
+pub fn left_of(progress: &Progress) -> u32
     ensures value { λ r. ⌜ r ≡ left (now (progress .entry)) ⌝ }
     ensures fits { λ _. ⌜ now (progress .entry) .total < 2 ^ 32 ⌝ }
 {
@@ -86,7 +86,7 @@ pub(crate) fn left_of(progress: &Progress) -> u32
 }
 
 // Refuses an advance after a finding, by 0, and by more than is left.
-pub(crate) fn admit(progress: &Progress, k: u32) -> Result<(), Refused>
+pub fn admit(progress: &Progress, k: u32) -> Result<(), Refused>
     ensures answer { λ r. ⌜ r ≡ admitted (refused (now (progress .entry)) k) ⌝ }
     ensures few { λ r. ⌜ (r ≡ Ok tt → now (progress .entry) .taken + k < 2 ^ 32) ⌝ }
 {
