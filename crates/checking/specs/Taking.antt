@@ -4,17 +4,13 @@
 --   checkedNow m p  the check of the next unit
 --   settled s c     the stage after the check c of a unit in stage s, which stays where something was found
 --   passed c        whether the check found something
---   admitted r      an advance goes on unless it is refused
 -- Assumes nothing.
 use Rattle.std.specs.declared.result.Result.{Result}
 use Rattle.std.specs.declared.result.Result.the-variants.{Ok, Err}
-use Rattle.std.specs.declared.option.Option.{Option}
-use Rattle.std.specs.declared.option.Option.the-variants.{Some, None}
 use Rattle.dossier.specs.Meaning.{Meaning}
 use Rattle.rules.specs.Units.{entered}
 use Rattle.rules.specs.Checks.{checked}
 use Rattle.rules.specs.Course.{nextUnit}
-use Rattle.rules.specs.declared.call.Refused.{Refused}
 use Rattle.rules.specs.declared.finding.Finding.{Finding}
 use Rattle.rules.specs.declared.progress.Stage.{Stage}
 use Rattle.rules.specs.declared.progress.Progress.{Progress}
@@ -35,7 +31,3 @@ settled s (Err f) = s
 abbrev pub passed : Result Stage Finding → Result Unit Finding
 passed (Ok s) = Ok tt
 passed (Err f) = Err f
-
-abbrev pub admitted : Option Refused → Result Unit Refused
-admitted (Some r) = Err r
-admitted None = Ok tt

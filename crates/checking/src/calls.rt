@@ -7,7 +7,7 @@ ghost use Rattle.rules.specs.Course.{begun, called, after, left, closing};
 ghost use Rattle.rules.specs.Laws.{Closes, Acceptance, Existence, Uniqueness};
 ghost use Rattle.checking.specs.Laws.{AcceptsGenuine};
 use crate::checking::Checking;
-use closing::verdict::Verdict;
+use course::verdict::Verdict;
 use dossier::questions::Dossier;
 use rules::call::Call;
 

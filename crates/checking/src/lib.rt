@@ -1,5 +1,4 @@
 // The checking of a dossier from its questions alone, by turns.
-mod begin;
 pub mod calls;
 pub mod checking;
 mod line;
