@@ -17,8 +17,8 @@ use Rattle.dossier.specs.declared.refusal.Part.{Part}
 use Rattle.dossier.specs.Meaning.{Item, Each, IsRecord, item-answer}
 use Rattle.field.specs.Bytes.{Form, field-bytes}
 use Rattle.field.proofs.Fields.{filled-is}
 use Rattle.codec.specs.Written.{item-bytes}
-use Rattle.codec.specs.Write.{put}
+use Rattle.writer.specs.Write.{put}
 
 pub record-at : {R : Type 0} (xs : List (Item R)) (k : ℕ) → Each IsRecord xs → k < length xs → IsRecord (getD xs k (Err 0))
 record-at [] k all h = absurd (omega arith)
