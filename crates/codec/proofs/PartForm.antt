@@ -71,7 +71,7 @@ module _ {R : Type 0} (t s : ℕ) (numbers payload : R → List ℕ) (parsed : L
   pub items-listed : (z : ℕ) (h : Head) (count : Head → ℕ) (bs : List ℕ) → Bytes bs → Listed (Ok h) count numbers (items (field-read t s parsed) z (count h) bs)
   items-listed z h count bs small = record { counts = length-items (field-read t s parsed) z (count h) bs; fits = items-fit z (count h) bs small }
 
-  length-item : (x : Item R) → IsRecord x → length (item-bytes t s payload x) ≡ 3 + s
+  pub length-item : (x : Item R) → IsRecord x → length (item-bytes t s payload x) ≡ 3 + s
   length-item (Ok r) yes-record = let l = form .long r in omega arith
   length-item (Err l) none = absurd none
 

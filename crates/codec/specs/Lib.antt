@@ -1,4 +1,3 @@
 pub mod Layout
 pub mod Held
 pub mod Written
-pub mod Write

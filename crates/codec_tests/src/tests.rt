@@ -1,10 +1,6 @@
 // Small files, written field by field. The expected answers are worked out by hand from the byte form.
 use codec::holder::ByteDossier;
 use codec::holder::DossierInBytes;
-use codec::refusal::WriteRefusal;
-use codec::refusal::WriteRefusalDebug;
-use codec::refusal::WriteRefusalPartialEq;
-use codec::writer::write;
 use dossier::cache::RowCache;
 use dossier::cache::RowCacheDossier;
 use dossier::pair::Pair;
@@ -25,6 +21,10 @@ use field::kind::write_field;
 use field::records::HeadKind;
 use field::rows::RowKind;
 use std::test::*;
+use writer::refusal::WriteRefusal;
+use writer::refusal::WriteRefusalDebug;
+use writer::refusal::WriteRefusalPartialEq;
+use writer::write::write;
 
 // A file of two rows: 23 + 2 * 24 bytes.
 const SIZE: usize = 71;

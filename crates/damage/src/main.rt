@@ -13,29 +13,39 @@ const LIMIT: u64 = 4_096;
 const PARTS: [Part; 4] = [Part::Instruction, Part::Word, Part::Line, Part::Row];
 
 // The places of a part that are asked for: one more than the sample's longest list has.
-const PLACES: u32 = 8;
+const PLACES: usize = 8;
+
+const QUESTIONS: usize = 32;
+
+// The questions for items, numbered part by part.
+fn question(number: usize) -> (Part, u32) {
+    (PARTS[number / PLACES % 4], (number % PLACES) as u32)
+}
 
 fn changed(rt: &LibcRuntime, before: &[u8], after: &[u8]) -> io::Result<()> {
-    for part in PARTS {
-        for place in 0..PLACES {
-            let now = answer(after, part, place);
-            if now != answer(before, part, place) {
-                print!(rt, ", {now}")?;
-            }
+    for number in 0..QUESTIONS {
+        let (part, place) = question(number);
+        let now = answer(after, part, place);
+        if now != answer(before, part, place) {
+            print!(rt, ", {now}")?;
         }
     }
     println!(rt, "")
 }
 
+fn is_past(bytes: &[u8], number: usize) -> bool {
+    let (part, place) = question(number);
+    match answer(bytes, part, place) {
+        Answer::Refused(refusal) => refusal.number() == 1,
+        _ => false,
+    }
+}
+
 fn past(bytes: &[u8]) -> u32 {
     let mut count = 0u32;
-    for part in PARTS {
-        for place in 0..PLACES {
-            if let Answer::Refused(refusal) = answer(bytes, part, place) {
-                if refusal.number() == 1 {
-                    count = count.saturating_add(1);
-                }
-            }
+    for number in 0..QUESTIONS {
+        if is_past(bytes, number) {
+            count = count.saturating_add(1);
         }
     }
     count

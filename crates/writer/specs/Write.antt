@@ -18,9 +18,9 @@ use Rattle.dossier.specs.declared.refusal.Refusal.{Refusal}
 use Rattle.dossier.specs.declared.refusal.Refusal.the-variants.{Past, Unreadable}
 use Rattle.dossier.specs.Meaning.{Item, Meaning, head-answer, refusal-number, refusal-values}
 use Rattle.field.specs.Bytes.{field-bytes, filled}
-use Rattle.codec.specs.declared.refusal.WriteRefusal.{WriteRefusal}
-use Rattle.codec.specs.declared.refusal.WriteRefusal.the-variants.{Asked, Room}
+use Rattle.writer.specs.declared.refusal.WriteRefusal.{WriteRefusal}
+use Rattle.writer.specs.declared.refusal.WriteRefusal.the-variants.{Asked, Room}
 use Rattle.codec.specs.Layout.{file-size}
 
 abbrev pub first-fault : {R : Type 0} → Part → ℕ → List (Item R) → Result Unit Refusal
 first-fault p k [] = Ok tt

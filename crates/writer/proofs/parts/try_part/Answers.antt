@@ -6,8 +6,8 @@ use Rattle.std.specs.Finite.{nth}
 use Rattle.std.proofs.shelf.Results.{err-from-errBy}
 use Rattle.std.specs.declared.result.Result.the-variants.{Ok, Err}
 use Rattle.dossier.specs.Meaning.{Meaning, item-answer}
-use Rattle.codec.proofs.Faults.{fault-here, fault-later, fault-none}
-use Rattle.codec.proofs.parts.try_part.Needs as need
+use Rattle.writer.proofs.Faults.{fault-here, fault-later, fault-none}
+use Rattle.writer.proofs.parts.try_part.Needs as need
 
 pub returns-in-Break-ask : need.returns-in-Break-ask
 returns-in-Break-ask g c =

@@ -5,11 +5,11 @@ use native.Mathlib.Omega.{arith}
 use lib.ListN.{length, drop, length-take}
 use Rattle.std.specs.declared.result.Result.the-variants.{Ok}
 use Rattle.dossier.specs.Meaning.{Meaning, Made, Readable}
 use Rattle.codec.specs.Layout.{file-size}
 use Rattle.codec.specs.Written.{written}
-use Rattle.codec.specs.Write.{items-answer}
-use Rattle.codec.proofs.Whole.{head-is, all-readable, write-ok, write-back}
-use Rattle.codec.proofs.writer.write.Needs as need
+use Rattle.writer.specs.Write.{items-answer}
+use Rattle.writer.proofs.Whole.{head-is, all-readable, write-ok, write-back}
+use Rattle.writer.proofs.write.write.Needs as need
 
 pub put-items-requires : need.put-items-requires
 put-items-requires g c κs =

@@ -1,7 +1,7 @@
 use mathlib.Core.Path.{_≡_}
 use lib.ListN.{drop}
-use Rattle.codec.specs.Write.{first-fault}
-use Rattle.codec.proofs.parts.try_part.Given as given
+use Rattle.writer.specs.Write.{first-fault}
+use Rattle.writer.proofs.parts.try_part.Given as given
 
 abbrev pub Inv-loop-place : given.InvT-loop-place
 Inv-loop-place g l =

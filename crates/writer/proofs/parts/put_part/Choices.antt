@@ -3,8 +3,8 @@ use mathlib.Core.List.{_++_}
 use Prim.Native.Nat.{_+_, _*_}
 use lib.ListN.{take}
 use Rattle.std.specs.Joined.{joined}
 use Rattle.codec.specs.Written.{item-bytes}
-use Rattle.codec.proofs.parts.put_part.Given as given
+use Rattle.writer.proofs.parts.put_part.Given as given
 
 abbrev pub Inv-loop-place : given.InvT-loop-place
 Inv-loop-place g l =

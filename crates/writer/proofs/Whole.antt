@@ -18,14 +18,14 @@ use Rattle.dossier.specs.Meaning.{Item, Meaning, Made, Readable, IsRecord, item
 use Rattle.field.specs.Bytes.{field-bytes, filled}
 use Rattle.field.specs.Payload.{head-payload}
 use Rattle.field.proofs.Fields.{filled-is}
-use Rattle.codec.specs.declared.refusal.WriteRefusal.{WriteRefusal}
-use Rattle.codec.specs.declared.refusal.WriteRefusal.the-variants.{Asked, Room}
+use Rattle.writer.specs.declared.refusal.WriteRefusal.{WriteRefusal}
+use Rattle.writer.specs.declared.refusal.WriteRefusal.the-variants.{Asked, Room}
 use Rattle.codec.specs.Layout.{file-size}
 use Rattle.codec.specs.Held.{meaning-of}
 use Rattle.codec.specs.Written.{head-bytes, instructions-bytes, words-bytes, lines-bytes, rows-bytes, written}
-use Rattle.codec.specs.Write.{then-try, first-fault, items-answer, answered, under-head, write-answer}
-use Rattle.codec.proofs.Faults.{all-records}
+use Rattle.writer.specs.Write.{then-try, first-fault, items-answer, answered, under-head, write-answer}
+use Rattle.writer.proofs.Faults.{all-records}
 use Rattle.codec.proofs.Laws.{length-written, reads-back}
 
 -- five parts, one after the other, are the written form
 pub put-all : (m m1 m2 m3 : Meaning) (h : Head) (o1 o2 o3 o4 o5 : List ℕ) (e2 e3 e4 e5 : ℕ) → m .head ≡ Ok h → m1 ≡ m → m2 ≡ m1 → m3 ≡ m2 → take 23 o1 ≡ head-bytes (Ok h) → take e2 o2 ≡ take 23 o1 ++ instructions-bytes (m .instructions) → take e3 o3 ≡ take e2 o2 ++ words-bytes (m1 .words) → take e4 o4 ≡ take e3 o3 ++ lines-bytes (m2 .lines) → take e5 o5 ≡ take e4 o4 ++ rows-bytes (m3 .rows) → length o5 ≤ e5 → o5 ≡ written m

@@ -7,11 +7,11 @@ use Rattle.std.specs.Finite.{nth}
 use Rattle.std.specs.Joined.{joined}
 use Rattle.std.proofs.shelf.Lists.{take-all}
 use Rattle.dossier.specs.Meaning.{Meaning, item-answer}
 use Rattle.codec.specs.Written.{item-bytes}
-use Rattle.codec.specs.Write.{put}
+use Rattle.writer.specs.Write.{put}
 use Rattle.codec.proofs.Items.{in-room, one-on}
-use Rattle.codec.proofs.Puts.{put-more}
-use Rattle.codec.proofs.parts.put_part.Needs as need
+use Rattle.writer.proofs.Puts.{put-more}
+use Rattle.writer.proofs.parts.put_part.Needs as need
 
 pub add-at : need.add-at
 add-at g c =

@@ -11,7 +11,7 @@ use Rattle.std.specs.declared.result.Result.the-variants.{Ok, Err}
 use Rattle.dossier.specs.declared.refusal.Part.{Part}
 use Rattle.dossier.specs.declared.refusal.Refusal.{Refusal}
 use Rattle.dossier.specs.Meaning.{Item, Each, IsRecord, item-answer}
-use Rattle.codec.specs.Write.{first-fault, then-try}
+use Rattle.writer.specs.Write.{first-fault, then-try}
 
 module _ {R : Type 0} (p : Part) where
   pub fault-here : (j k : ℕ) (xs : List (Item R)) (e : Refusal) → k < length xs → Err e ≡ item-answer p j (nth xs k) → first-fault p j (drop k xs) ≡ Err e

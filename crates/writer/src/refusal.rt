@@ -1,8 +1,8 @@
 // What the writer answers where it writes nothing.
 ghost use mathlib.Core.Path.{_≡_};
 ghost use Rattle.std.specs.Finite.{nth};
-ghost use Rattle.codec.specs.declared.refusal.WriteRefusal.the-variants.{Asked};
-ghost use Rattle.codec.specs.Write.{write-number, write-values};
+ghost use Rattle.writer.specs.declared.refusal.WriteRefusal.the-variants.{Asked};
+ghost use Rattle.writer.specs.Write.{write-number, write-values};
 use dossier::refusal::Refusal;
 use dossier::refusal::RefusalDebug;
 use dossier::refusal::RefusalPartialEq;

@@ -2,8 +2,8 @@ use mathlib.Core.Path.{_≡_, _∙_}
 use native.Mathlib.Omega.{arith}
 use lib.ListN.{length, take, drop, length-take}
 use borrow.Rule.Slice.PartMut.{putMid}
-use Rattle.codec.proofs.Whole.{put-all, put-head}
-use Rattle.codec.proofs.writer.put_items.Needs as need
+use Rattle.writer.proofs.Whole.{put-all, put-head}
+use Rattle.writer.proofs.write.put_items.Needs as need
 
 pub returns : need.returns
 returns g c =
