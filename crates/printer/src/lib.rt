@@ -1,0 +1,4 @@
+// Programs as text: the listing of instructions.
+pub mod listing;
+mod name;
+mod operation;
