@@ -22,7 +22,7 @@ use Rattle.encoding.specs.Encoding.{named, operandWord, packed, placed, encoded
 use Rattle.encoding.proofs.Options.{if-some}
 use Rattle.lexer.specs.declared.class.Class.the-variants.{Line}
 use Rattle.lexer.specs.Classes.{belongs}
-use Rattle.parser.specs.Names.{nameOf}
+use Rattle.mnemonics.specs.Names.{nameOf}
 use Rattle.parser.specs.Operands.{andThen, ended, operandIn, registerIn, commaIn}
 use Rattle.parser.specs.Statements.{StatementView, stated, threeIn, compareIn, twoIn, storeIn, oneIn, operandsIn, whole, line, lineIn}
 use Rattle.assembler.specs.Resolve.{settled, encodedBy}

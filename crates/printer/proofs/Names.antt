@@ -20,7 +20,7 @@ use Rattle.lexer.specs.declared.token.Kind.{Kind}
 use Rattle.lexer.specs.declared.token.Kind.the-variants.{Mnemonic}
 use Rattle.lexer.specs.Classes.{belongs, front, past}
 use Rattle.lexer.specs.Tokens.{startOf, kindOf, textOf, restOf}
-use Rattle.parser.specs.Names.{nameOf, mnemonicOf}
+use Rattle.mnemonics.specs.Names.{nameOf, mnemonicOf}
 use Rattle.parser.specs.Operands.{andThen}
 use Rattle.parser.specs.Statements.{StatementView, LineView, whole, statementFrom, lineFrom, line, lineIn}
 use Rattle.printer.proofs.Fronts.{every, stopped, front-append, past-append, kind-cons}

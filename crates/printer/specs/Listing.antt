@@ -16,7 +16,7 @@ use Rattle.encoding.specs.declared.operation.Operation.{Operation}
 use Rattle.encoding.specs.declared.operation.Operation.the-variants as O
 use Rattle.encoding.specs.declared.instruction.Instruction.{Instruction}
 use Rattle.encoding.specs.Encoding.{meant}
-use Rattle.parser.specs.Names.{nameOf}
+use Rattle.mnemonics.specs.Names.{nameOf}
 use Rattle.assembler.specs.Text.{header}
 
 abbrev pub registerText : ℕ → List ℕ

@@ -1,4 +1,3 @@
 // Programs as text: the listing of instructions.
 pub mod listing;
-mod name;
 mod operation;

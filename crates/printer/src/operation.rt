@@ -3,10 +3,10 @@ ghost use mathlib.Core.Path.{_≡_};
 ghost use Rattle.std.specs.Of.String.{string-bytes};
 ghost use Rattle.std.specs.Vec.{made};
 ghost use Rattle.printer.specs.Listing.{operandText, threeText, twoText, storeText, oneText, operationText};
-use crate::name::name;
 use encoding::mnemonic::Mnemonic;
 use encoding::operation::Operand;
 use encoding::operation::Operation;
+use mnemonics::name::name_of;
 use std::alloc::AllocError;
 use std::alloc::Global;
 
@@ -22,7 +22,7 @@ fn operand_text(heap: Global, a: Operand) -> Result<String, AllocError>
 fn three(heap: Global, m: Mnemonic, i: u8, j: u8, a: Operand) -> Result<String, AllocError>
     ensures { λ r. ⌜ made r (λ t. string-bytes t ≡ threeText m i j a) ⌝ }
 {
-    let word = name(m);
+    let word = name_of(m);
     let operand = operand_text(heap, a)?;
     format!(heap, "{word} r{i}, r{j}, {operand}")
 }
@@ -30,7 +30,7 @@ fn three(heap: Global, m: Mnemonic, i: u8, j: u8, a: Operand) -> Result<String, 
 fn two(heap: Global, m: Mnemonic, i: u8, a: Operand) -> Result<String, AllocError>
     ensures { λ r. ⌜ made r (λ t. string-bytes t ≡ twoText m i a) ⌝ }
 {
-    let word = name(m);
+    let word = name_of(m);
     let operand = operand_text(heap, a)?;
     format!(heap, "{word} r{i}, {operand}")
 }
@@ -38,7 +38,7 @@ fn two(heap: Global, m: Mnemonic, i: u8, a: Operand) -> Result<String, AllocErro
 fn store(heap: Global, m: Mnemonic, a: Operand, i: u8) -> Result<String, AllocError>
     ensures { λ r. ⌜ made r (λ t. string-bytes t ≡ storeText m a i) ⌝ }
 {
-    let word = name(m);
+    let word = name_of(m);
     let operand = operand_text(heap, a)?;
     format!(heap, "{word} {operand}, r{i}")
 }
@@ -46,7 +46,7 @@ fn store(heap: Global, m: Mnemonic, a: Operand, i: u8) -> Result<String, AllocEr
 fn one(heap: Global, m: Mnemonic, a: Operand) -> Result<String, AllocError>
     ensures { λ r. ⌜ made r (λ t. string-bytes t ≡ oneText m a) ⌝ }
 {
-    let word = name(m);
+    let word = name_of(m);
     let operand = operand_text(heap, a)?;
     format!(heap, "{word} {operand}")
 }
