@@ -21,7 +21,7 @@ use Rattle.lexer.specs.declared.token.Word.{Word}
 use Rattle.lexer.specs.Tokens.{Seen, kindIn, textIn, restIn, placeIn, afterMark}
 use Rattle.parser.specs.declared.statement.Statement.{Statement}
 use Rattle.parser.specs.declared.statement.Line.{Line}
-use Rattle.parser.specs.Names.{mnemonicOf}
+use Rattle.mnemonics.specs.Names.{mnemonicOf}
 use Rattle.parser.specs.Operands.{ArgumentView, viewArgument, andThen, label, commaIn, ended, operandIn, registerIn}
 
 pub record StatementView : Type 0 where

@@ -2,7 +2,6 @@
 ghost use mathlib.Core.Path.{_≡_};
 ghost use Rattle.std.specs.Options.{mapped};
 ghost use Rattle.parser.specs.Statements.{viewStatement, viewRead, viewLine, threeIn, compareIn, twoIn, storeIn, oneIn, operandsIn, statementIn, lineIn};
-use crate::name::mnemonic_of;
 use crate::operand::Argument;
 use crate::operand::is_end;
 use crate::operand::is_label;
@@ -14,6 +13,7 @@ use lexer::token::Token;
 use lexer::token::Word;
 use lexer::token::after_colon;
 use lexer::token::next_token;
+use mnemonics::name::mnemonic_of;
 
 // An instruction as it is written; a register that it does not have is 0.
 #[derive(Clone, Copy)]

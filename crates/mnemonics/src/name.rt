@@ -1,6 +1,6 @@
 // The names of the 29 instructions.
 ghost use mathlib.Core.Path.{_≡_};
-ghost use Rattle.parser.specs.Names.{computing, comparing, others, among, mnemonicOf};
+ghost use Rattle.mnemonics.specs.Names.{nameOf, computing, comparing, others, among, mnemonicOf};
 use encoding::mnemonic::Mnemonic;
 use encoding::operation::Condition;
 use word::cell::Size;
@@ -60,8 +60,45 @@ fn other(text: &str) -> Option<Mnemonic>
     }
 }
 
-pub(crate) fn mnemonic_of(text: &str) -> Option<Mnemonic>
+// The instruction of a name, if there is one.
+pub fn mnemonic_of(text: &str) -> Option<Mnemonic>
     ensures { λ r. ⌜ r ≡ mnemonicOf (now (text .entry)) ⌝ }
 {
     arithmetic(text).or(comparison(text)).or(other(text))
+}
+
+pub fn name_of(mnemonic: Mnemonic) -> &'static str
+    ensures { λ r. ⌜ now r ≡ nameOf mnemonic ⌝ }
+{
+    match mnemonic {
+        Mnemonic::Compute(Arithmetic::And) => "and",
+        Mnemonic::Compute(Arithmetic::Or) => "or",
+        Mnemonic::Compute(Arithmetic::Xor) => "xor",
+        Mnemonic::Compute(Arithmetic::Add) => "add",
+        Mnemonic::Compute(Arithmetic::Sub) => "sub",
+        Mnemonic::Compute(Arithmetic::Mull) => "mull",
+        Mnemonic::Compute(Arithmetic::Umulh) => "umulh",
+        Mnemonic::Compute(Arithmetic::Smulh) => "smulh",
+        Mnemonic::Compute(Arithmetic::Udiv) => "udiv",
+        Mnemonic::Compute(Arithmetic::Umod) => "umod",
+        Mnemonic::Compute(Arithmetic::Shl) => "shl",
+        Mnemonic::Compute(Arithmetic::Shr) => "shr",
+        Mnemonic::Not => "not",
+        Mnemonic::Compare(Comparison::Equal) => "cmpe",
+        Mnemonic::Compare(Comparison::Above) => "cmpa",
+        Mnemonic::Compare(Comparison::AboveOrEqual) => "cmpae",
+        Mnemonic::Compare(Comparison::Greater) => "cmpg",
+        Mnemonic::Compare(Comparison::GreaterOrEqual) => "cmpge",
+        Mnemonic::Move => "mov",
+        Mnemonic::MoveIfFlag => "cmov",
+        Mnemonic::Jump(Condition::Always) => "jmp",
+        Mnemonic::Jump(Condition::IfFlag) => "cjmp",
+        Mnemonic::Jump(Condition::UnlessFlag) => "cnjmp",
+        Mnemonic::Store(Size::Byte) => "store.b",
+        Mnemonic::Load(Size::Byte) => "load.b",
+        Mnemonic::Store(Size::Word) => "store.w",
+        Mnemonic::Load(Size::Word) => "load.w",
+        Mnemonic::Read => "read",
+        Mnemonic::Answer => "answer",
+    }
 }

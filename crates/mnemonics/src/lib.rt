@@ -1,0 +1,2 @@
+// Instructions by their names.
+pub mod name;

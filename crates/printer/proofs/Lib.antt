@@ -1,0 +1,6 @@
+mod Fronts
+mod Digits
+mod Operands
+mod Names
+mod Lines
+mod Back

@@ -1,0 +1,3 @@
+// Programs as text: the listing of instructions.
+pub mod listing;
+mod operation;
