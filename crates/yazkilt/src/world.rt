@@ -27,6 +27,21 @@ pub struct Happened {
     pub answer: Option<u32>,
 }
 
+impl Happened {
+    // The register that the operation may change.
+    pub(crate) fn destination(&self) -> Option<u8> {
+        match self.operation {
+            Operation::Compute { to, .. }
+            | Operation::Not { to, .. }
+            | Operation::Move { to, .. }
+            | Operation::MoveIfFlag { to, .. }
+            | Operation::Load { to, .. }
+            | Operation::Read { to, .. } => Some(to),
+            _ => None,
+        }
+    }
+}
+
 // The state of the machine, its memory by cells, and how many auxiliary words were read.
 #[derive(Drop)]
 pub struct World {
