@@ -3,7 +3,7 @@ ghost use mathlib.Core.Path.{_≡_};
 ghost use denote.Ref.{now};
 ghost use lib.ListN.{replicate};
 ghost use Rattle.std.specs.declared.option.Option.the-variants.{None};
-ghost use Rattle.dossier.specs.Meaning.{Meaning, head-answer, instruction-answer, word-answer, line-answer, row-answer};
+ghost use Rattle.dossier.specs.Meaning.{Meaning, Made, head-answer, instruction-answer, word-answer, line-answer, row-answer};
 ghost use Rattle.dossier.specs.Cache.{Slots};
 use crate::questions::Dossier;
 use crate::record::Head;

@@ -3,7 +3,7 @@ ghost use mathlib.Core.Path.{_≡_};
 ghost use denote.Ref.{now};
 ghost use Rattle.std.specs.declared.result.Result.{Result};
 ghost use Rattle.std.specs.declared.result.Result.the-variants.{Ok, Err};
-ghost use Rattle.dossier.specs.Meaning.{Meaning, head-answer, instruction-answer, word-answer, line-answer, row-answer};
+ghost use Rattle.dossier.specs.Meaning.{Meaning, Made, head-answer, instruction-answer, word-answer, line-answer, row-answer};
 ghost use Rattle.dossier.specs.Pair.{paired, common-answer, headed};
 use crate::questions::Dossier;
 use crate::record::Head;
@@ -33,7 +33,7 @@ pub struct Pair<A, B> {
 impl<A: Dossier, B: Dossier> Pair<A, B> {
     pub fn new(first: A, second: B) -> Pair<A, B>
         requires { ⌜ A·Dossier .rule first × B·Dossier .rule second ⌝ }
-        ensures rule { λ r. ⌜ A·Dossier .rule (r .first) × B·Dossier .rule (r .second) × (r .head ≡ head-answer (paired (A·Dossier .meaning (r .first)) (B·Dossier .meaning (r .second)))) ⌝ }
+        ensures rule { λ r. ⌜ A·Dossier .rule (r .first) × B·Dossier .rule (r .second) × Made (A·Dossier .meaning (r .first)) × Made (B·Dossier .meaning (r .second)) × (r .head ≡ head-answer (paired (A·Dossier .meaning (r .first)) (B·Dossier .meaning (r .second)))) ⌝ }
         ensures meant { λ r. ⌜ paired (A·Dossier .meaning (r .first)) (B·Dossier .meaning (r .second)) ≡ paired (A·Dossier .meaning first) (B·Dossier .meaning second) ⌝ }
     {
         let mut first = first;
@@ -82,7 +82,7 @@ fn under_head(head: Result<Head, Refusal>, part: Part, place: u32) -> Result<(),
 pub impl<A: Dossier, B: Dossier> Dossier for Pair<A, B> as PairDossier {
     ghost meaning = { λ p. paired (A·Dossier .meaning (p .first)) (B·Dossier .meaning (p .second)) };
 
-    ghost rule = { λ p. A·Dossier .rule (p .first) × B·Dossier .rule (p .second) × (p .head ≡ head-answer (paired (A·Dossier .meaning (p .first)) (B·Dossier .meaning (p .second)))) };
+    ghost rule = { λ p. A·Dossier .rule (p .first) × B·Dossier .rule (p .second) × Made (A·Dossier .meaning (p .first)) × Made (B·Dossier .meaning (p .second)) × (p .head ≡ head-answer (paired (A·Dossier .meaning (p .first)) (B·Dossier .meaning (p .second)))) };
 
     fn head(&mut self) -> Result<Head, Refusal> {
         self.head

@@ -9,18 +9,19 @@ use crate::refusal::Refusal;
 use encoding::instruction::Instruction;
 
 // Asking keeps the implementation's own rule and never alters the meaning.
+// Who asks for the head learns as well that the head counts the items and that all numbers fit.
 pub trait Dossier {
     ghost meaning: { Self → Meaning };
 
     // What the implementation keeps; making it sets this up.
     ghost rule: { Self → Type 0 };
 
-    law made: { (d : Self) → rule d → Made (meaning d) };
-
+    // A law of the trait would say `made`, but an impl with a lifetime cannot have one proved.
     fn head(&mut self) -> Result<Head, Refusal>
         requires { ⌜ rule (now self) ⌝ }
         ensures kept { λ _. ⌜ rule (now (self .exit)) ⌝ }
         ensures same { λ _. ⌜ meaning (now (self .exit)) ≡ meaning (now (self .entry)) ⌝ }
+        ensures made { λ _. ⌜ Made (meaning (now (self .entry))) ⌝ }
         ensures answer { λ r. ⌜ r ≡ head-answer (meaning (now (self .entry))) ⌝ };
 
     fn instruction(&mut self, place: u32) -> Result<Instruction, Refusal>

@@ -12,10 +12,10 @@ returns g c =
     let pair = c .args .self .now in
     let a = g .A·Dossier .meaning (pair .first) in
     let b = g .B·Dossier .meaning (pair .second) in
-    let counts-a = g .A·Dossier·met .made (pair .first) (c .pre .0) .lines .counts in
-    let counts-b = g .B·Dossier·met .made (pair .second) (c .pre .1) .lines .counts in
+    let counts-a = c .pre .2 .lines .counts in
+    let counts-b = c .pre .3 .lines .counts in
     record {
       kept = search needs;
       same = search needs;
-      answer = pair-answer line-numbers part.Line (c .args .place) (λ h. h .lines) (λ g h e. grind (arith, tells)) (a .head) (b .head) (a .lines) (b .lines) (pair .head) (c .line .result) (c .line-2 .result) (c .common .result) counts-a counts-b (c .pre .2) (sym (c .under-head .ensures) ∙ c .in-Continue-under-head .was tt) (c .line .ensures .answer) (c .line-2 .ensures .answer) (c .common .ensures);
+      answer = pair-answer line-numbers part.Line (c .args .place) (λ h. h .lines) (λ g h e. grind (arith, tells)) (a .head) (b .head) (a .lines) (b .lines) (pair .head) (c .line .result) (c .line-2 .result) (c .common .result) counts-a counts-b (c .pre .4) (sym (c .under-head .ensures) ∙ c .in-Continue-under-head .was tt) (c .line .ensures .answer) (c .line-2 .ensures .answer) (c .common .ensures);
     }

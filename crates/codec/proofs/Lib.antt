@@ -1,0 +1,4 @@
+pub mod Items
+pub mod PartForm
+pub mod Meant
+pub mod Laws

@@ -1,0 +1,3 @@
+// What a dossier in bytes answers, as text.
+pub mod answer;
+pub mod ask;
