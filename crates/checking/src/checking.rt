@@ -4,9 +4,9 @@ ghost use Prim.Native.Nat.{_<_, _^_, _+_};
 ghost use Rattle.dossier.specs.Meaning.{Made};
 ghost use Rattle.log.specs.Rules.{kindOf};
 ghost use lib.Dec.{eqb};
-ghost use Rattle.rules.specs.Units.{placeOf, entered};
-ghost use Rattle.rules.specs.Checks.{judged, checked};
-ghost use Rattle.rules.specs.Course.{begun, nextUnit, took, taking, advanced, advanceAnswer, reported, closing};
+ghost use Rattle.rules.specs.Units.{placeOf};
+ghost use Rattle.rules.specs.Checks.{judged};
+ghost use Rattle.rules.specs.Course.{begun, took, taking, advanced, advanceAnswer, reported, closing};
 ghost use Rattle.checking.specs.Laws.{Advances, ClosesAt};
 ghost use Rattle.checking.specs.Taking.{inStage, stageNow, checkedNow, settled, passed};
 use crate::line::check_instruction;
@@ -30,6 +30,7 @@ use rules::progress::Progress;
 use rules::progress::Stage;
 use rules::progress::Unit;
 
+// A dossier, and how far its checking has come.
 #[derive(Drop)]
 pub struct Checking<D> {
     dossier: D,

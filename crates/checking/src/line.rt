@@ -1,7 +1,6 @@
 // The rules of instructions and lines.
 ghost use mathlib.Core.Path.{_≡_};
 ghost use Rattle.log.specs.Rules.{fromLine};
-ghost use Rattle.rules.specs.Units.{placeOf};
 ghost use Rattle.rules.specs.Checks.{checkedInstruction, checkedLine, above, within};
 use crate::unit::check;
 use crate::unit::need;

@@ -1,6 +1,6 @@
 // The rules of a row that need no other item.
 ghost use mathlib.Core.Path.{_≡_};
-ghost use Prim.Native.Nat.{_<_, _-_, _^_, _+_};
+ghost use Prim.Native.Nat.{_<_, _^_, _+_};
 ghost use Rattle.machine.specs.Effects.{left};
 ghost use Rattle.rules.specs.Units.{placeOf};
 ghost use Rattle.rules.specs.Checks.{onlyZero, haltsLast, kindFits, adviceFits, touchFits, checkedStep};

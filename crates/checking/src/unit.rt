@@ -1,7 +1,6 @@
 // Units, and how the check of a unit goes from rule to rule.
 ghost use mathlib.Core.Path.{_≡_};
-ghost use Rattle.dossier.specs.Meaning.{instruction-answer, word-answer, line-answer, row-answer};
-ghost use Rattle.rules.specs.Units.{unitAt, partOf, placeOf, opened, entered, broken, unless, unreadable, needed};
+ghost use Rattle.rules.specs.Units.{unitAt, partOf, placeOf, opened, entered, unless, unreadable, needed};
 ghost use Rattle.rules.specs.Checks.{itemAt};
 use dossier::questions::Dossier;
 use dossier::record::Head;
@@ -94,31 +93,32 @@ pub(crate) fn check(unit: Unit, test: bool, rule: Rule) -> Result<(), Finding>
     }
 }
 
-// The fault that a refusal tells of. An item past its list is never asked for.
-fn fault_of(refusal: Refusal) -> Fault
-    ensures { λ r. ⌜ ((unit : _) → unreadable unit refusal ≡ Finding.Unreadable (partOf unit) (placeOf unit) r) ⌝ }
+// Finding 22 at the unit, with the whole fault. An item past its list is never asked for.
+fn find_fault(unit: Unit, refusal: Refusal) -> Finding
+    ensures { λ r. ⌜ r ≡ unreadable unit refusal ⌝ }
 {
-    match refusal {
+    let fault = match refusal {
         Refusal::Past { part, place } => Fault {
             part,
             place,
             layer: 0,
         },
         Refusal::Unreadable(fault) => fault,
+    };
+    Finding::Unreadable {
+        part: part_of(unit),
+        place: place_of(unit),
+        fault,
     }
 }
 
-// The record that was asked for; finding 22 at the unit where it is unreadable, with the whole fault.
+// The record that was asked for; finding 22 at the unit where it is unreadable.
 pub(crate) fn need<R>(unit: Unit, answer: Result<R, Refusal>) -> Result<R, Finding>
     ensures { λ r. ⌜ r ≡ needed unit answer ⌝ }
 {
     match answer {
         Ok(record) => Ok(record),
-        Err(refusal) => Err(Finding::Unreadable {
-            part: part_of(unit),
-            place: place_of(unit),
-            fault: fault_of(refusal),
-        }),
+        Err(refusal) => Err(find_fault(unit, refusal)),
     }
 }
 
