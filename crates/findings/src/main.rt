@@ -22,7 +22,7 @@ fn unhex(rt: &LibcRuntime, text: &str) -> Result<Vec<u8>, AnyError> {
         let [high, low] = pair else {
             return Err("half a byte".into());
         };
-        bytes.push(digit(*high)? * 16 + digit(*low)?)?;
+        bytes.push(digit(*high)?.wrapping_mul(16).wrapping_add(digit(*low)?))?;
     }
     Ok(bytes)
 }

@@ -60,28 +60,35 @@ fn agree(heap: Global, text: &str, other: Receipt) -> Result<bool, AllocError> {
     Ok(other.as_str() == text)
 }
 
-// What the verdict says, in the last line of the receipt, where all ways say the same.
-pub(crate) fn every_way(heap: Global, bytes: &[u8]) -> Result<String, AllocError> {
-    let whole = check_all(ByteDossier::new(bytes))
-        .receipt()
-        .to_string(heap)?;
-    let text = whole.as_str();
+// Whether every other way makes the receipt with this text.
+fn all_agree(heap: Global, bytes: &[u8], text: &str) -> Result<bool, AllocError> {
     let cached = check_all(RowCache::new(ByteDossier::new(bytes))).receipt();
     let pair = Pair::new(
         RowCache::new(ByteDossier::new(bytes)),
         ByteDossier::new(bytes),
     );
     let paired = check_all(pair).receipt();
-    let mut all = agree(heap, text, cached)?
-        && agree(heap, text, paired)?
-        && agree(heap, text, unit_by_unit(heap, bytes)?)?;
-    if let Some((alone, pair)) = from_tables(heap, bytes)? {
-        all = all && agree(heap, text, alone)? && agree(heap, text, pair)?;
+    if !agree(heap, text, cached)? || !agree(heap, text, paired)? {
+        return Ok(false);
     }
-    let last = if all {
-        text.lines().last().unwrap_or("no line")
-    } else {
-        "the ways differ"
-    };
-    String::from_str(heap, last)
+    if let Some((alone, layered)) = from_tables(heap, bytes)? {
+        if !agree(heap, text, alone)? || !agree(heap, text, layered)? {
+            return Ok(false);
+        }
+    }
+    agree(heap, text, unit_by_unit(heap, bytes)?)
+}
+
+// What the verdict says, in the last line of the receipt, where all ways say the same.
+pub(crate) fn every_way(heap: Global, bytes: &[u8]) -> Result<String, AllocError> {
+    let text = check_all(ByteDossier::new(bytes))
+        .receipt()
+        .to_string(heap)?;
+    if !all_agree(heap, bytes, text.as_str())? {
+        return String::from_str(heap, "the ways differ");
+    }
+    match text.as_str().lines().last() {
+        Some(line) => String::from_str(heap, line),
+        None => String::from_str(heap, "no line"),
+    }
 }
