@@ -1,0 +1,10 @@
+pub mod Admitted
+pub mod Steps
+pub mod Memory
+pub mod Machine
+pub mod Tables
+pub mod Onward
+pub mod Ends
+pub mod Labels
+pub mod Finish
+pub mod Whole
