@@ -2,6 +2,9 @@
 -- A first touch has the number of its cell's entry as its origin, until the cells are put in order.
 --
 --   `linkTo n r`              a touch's row, linked on to step n
+--   `firstTouch c k a`        what the first touch of cell c records, whose entry has number k
+--   `laterTouch e a`          what a later touch records of a cell with entry e
+--   `openedEntry c t a`       the entry of cell c after its first touch at step t
 --   `Sofar ev T n row ent`    the first T rows show the events ev, and keep the link rules with the first n entries as lines
 --   `Holds mem n ent`         the first n entries have what memory holds, and it holds 0 elsewhere
 --   `Other r`                 a row that is no touch
@@ -23,6 +26,15 @@ linkTo n (FromLine x) = FromLine (record { cell = x .cell; before = x .before; a
 linkTo n (FromStep x) = FromStep (record { cell = x .cell; before = x .before; after = x .after; origin = x .origin; next = n })
 linkTo n (Advice w) = Advice w
 linkTo n AdviceEnd = AdviceEnd
+
+abbrev pub firstTouch : ℕ → ℕ → ℕ → Touch
+firstTouch c k a = record { cell = c; before = 0; after = a; origin = k; next = 0 }
+
+abbrev pub laterTouch : CellEntry → ℕ → Touch
+laterTouch e a = record { cell = e .cell; before = e .value; after = a; origin = e .last; next = 0 }
+
+abbrev pub openedEntry : ℕ → ℕ → ℕ → CellEntry
+openedEntry c t a = record { cell = c; first = t; last = t; value = a }
 
 pub record FirstRow (n : ℕ) (ent : ℕ → CellEntry) (t : ℕ) (x : Touch) : Type 0 where
   pub old : x .origin < n

@@ -5,7 +5,7 @@ ghost use Rattle.machine.specs.declared.step.Demand.the-variants.{Cell};
 ghost use Rattle.machine.specs.Effects.{asked};
 ghost use Rattle.tinyram.specs.Program.{operation};
 ghost use Rattle.index.specs.Map.{FindsIn};
-ghost use Rattle.runner.specs.Sofar.{linkTo};
+ghost use Rattle.runner.specs.Sofar.{linkTo, firstTouch, laterTouch, openedEntry};
 ghost use Rattle.runner.specs.Filling.{Going, Onward};
 use crate::state::Input;
 use crate::state::Progress;
@@ -29,7 +29,45 @@ fn linked(row: Row, next: u32) -> Row
     }
 }
 
-// The first touch of a cell. Its origin is the number of the cell's entry until the cells are in order.
+// What the first touch of a cell records. Its origin is the number of the cell's entry until the cells are in order.
+fn first_record(cell: u32, number: u32, after: u32) -> Touch
+    ensures { λ r. ⌜ r ≡ firstTouch cell number after ⌝ }
+{
+    Touch {
+        cell,
+        before: 0,
+        after,
+        origin: number,
+        next: 0,
+    }
+}
+
+// What a later touch records of a cell with this entry.
+fn later_record(entry: CellEntry, after: u32) -> Touch
+    ensures { λ r. ⌜ r ≡ laterTouch entry after ⌝ }
+{
+    Touch {
+        cell: entry.cell,
+        before: entry.value,
+        after,
+        origin: entry.last,
+        next: 0,
+    }
+}
+
+// The entry of a cell at its first touch.
+fn opened(cell: u32, step: u32, value: u32) -> CellEntry
+    ensures { λ r. ⌜ r ≡ openedEntry cell step value ⌝ }
+{
+    CellEntry {
+        cell,
+        first: step,
+        last: step,
+        value,
+    }
+}
+
+// The first touch of a cell.
 fn first_touch(
     input: Input,
     progress: Progress,
@@ -49,19 +87,9 @@ fn first_touch(
 {
     let step = progress.steps as u32 + 1;
     let value = after(by, &progress.cpu, 0);
-    rows[progress.steps] = Row::FromLine(Touch {
-        cell,
-        before: 0,
-        after: value,
-        origin: progress.cells as u32,
-        next: 0,
-    });
-    let entry = CellEntry {
-        cell,
-        first: step,
-        last: step,
-        value,
-    };
+    let record = first_record(cell, progress.cells as u32, value);
+    rows[progress.steps] = Row::FromLine(record);
+    let entry = opened(cell, step, value);
     index.insert(cells, progress.cells, slot, entry);
     Progress {
         steps: progress.steps + 1,
@@ -93,13 +121,7 @@ fn later_touch(
     let step = progress.steps as u32 + 1;
     let entry = cells[number];
     let value = after(by, &progress.cpu, entry.value);
-    rows[progress.steps] = Row::FromStep(Touch {
-        cell,
-        before: entry.value,
-        after: value,
-        origin: entry.last,
-        next: 0,
-    });
+    rows[progress.steps] = Row::FromStep(later_record(entry, value));
     let former = entry.last as usize - 1;
     rows[former] = linked(rows[former], step);
     index.renew(cells, progress.cells, number, step, value);

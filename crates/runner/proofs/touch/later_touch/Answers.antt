@@ -10,5 +10,5 @@ returns c =
     let es = c .args .cells .now in
     onward-later (c .pre .going) (c .pre .more) (c .args .by) (c .pre .by) (c .args .cell) (c .pre .asks) (entryAt es k .value) (c .after-value .result)
     (ap (configAt (c .args .input) (c .args .progress .steps) .memory) (sym (c .pre .taken .1)) ∙ c .pre .going .filling .holds .held k (c .pre .taken .0)) (c .after-value .ensures .value)
-    (c .execute .result) (c .execute .ensures .value) k (c .pre .taken .0) (c .pre .taken .1) refl _ refl (c .linked .result) _ (c .linked .ensures) _ (rw add-one refl)
+    (c .execute .result) (c .execute .ensures .value) k (c .pre .taken .0) (c .pre .taken .1) refl (c .later-record .result) (c .later-record .ensures ∙ ap (λ u. record { cell = u; before = entryAt es k .value; after = c .after-value .result; origin = entryAt es k .last; next = 0 }) (c .pre .taken .1)) (c .linked .result) _ (c .linked .ensures) _ (rw add-one refl)
     (c .renew .last .cells) (c .renew .ensures .cells) (c .renew .ensures .kept)
