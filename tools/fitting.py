@@ -1,10 +1,11 @@
-"""The trace of the built-in fitting program, as program `yazkilt` is to print it.
+"""The logs of the built-in programs and the steps of the fitting program, as program `yazkilt` is to print them.
 
     python3 tools/fitting.py > crates/yazkilt/stdout
     python3 tools/fitting.py words        the program's instructions as two words each
 """
 import sys
 
+from dossiers import SAMPLE, log, pack, receipt
 from tinyram import TABLE, Machine, encode
 
 # A gain in 8.8 fixed point and a limit, then the target words. Each measured word is scaled by the gain; the
@@ -47,6 +48,28 @@ def main():
         for text in PROGRAM:
             print("%08x %08x ; %s" % (*encode(text), text))
         return
+    print("the sample:")
+    show_log(SAMPLE, [], [7], 9)
+    trace()
+    print("its log:")
+    show_log(PROGRAM, PRIMARY, AUXILIARY, 1000)
+
+
+def show_log(program, primary, auxiliary, bound):
+    rows, lines, answer = log(program, primary, auxiliary, bound)
+    ending = "out of steps" if answer is None else "answered %d in step %d" % (answer, len(rows))
+    print("%s cells %d" % (ending, len(lines)))
+    for row in rows:
+        print("row %d %d %d %d %d %d" % tuple(row))
+    for cell, first in lines:
+        touches = [step for step, row in enumerate(rows, 1) if row[0] in (1, 2) and row[1] == cell]
+        print("cell %d %d %d %d" % (cell, first, touches[-1], rows[touches[-1] - 1][3]))
+    data = pack([encode(text) for text in program], primary, lines, rows, bound)
+    print("dossier %d bytes" % len(data))
+    print("what tables and bytes both mean:\n%s" % receipt(data), end="")
+
+
+def trace():
     machine = Machine(PROGRAM, PRIMARY, AUXILIARY)
     print("program %d primary %d auxiliary %d" % (len(PROGRAM), len(PRIMARY), len(AUXILIARY)))
     for step in range(1, 1001):

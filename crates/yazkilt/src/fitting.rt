@@ -1,4 +1,15 @@
-// A small fitting program, and tapes for it.
+// The built-in programs, and tapes.
+
+// Stores an auxiliary word and accepts if its lowest byte is 7.
+pub const SAMPLE: &str = "; TinyRAM V=2.000 M=hv W=32 K=16
+        read r1, 1
+        store.w 8, r1
+        load.b r2, 8
+        cmpe r2, 7
+        cnjmp _no
+        answer 0
+_no:    answer 1
+";
 
 // The primary tape holds a gain in 8.8 fixed point, a limit, and the target words; the auxiliary tape holds
 // a measured word for each target. Each measured word is scaled by the gain. The errors are summed in cell 16

@@ -1,12 +1,16 @@
-// Assembles the built-in fitting program, runs it to its answer, and prints each step.
+// Assembles the sample and the fitting program from text, runs them to their answers, and prints their steps and logs.
 mod fitting;
+mod logged;
 mod world;
 
 use assembler::text::assemble;
 use encoding::instruction::Instruction;
 use fitting::AUXILIARY;
 use fitting::PRIMARY;
+use fitting::SAMPLE;
 use fitting::TEXT;
+use logged::Job;
+use logged::log_run;
 use printer::listing::print_program;
 use std::error::AnyError;
 use world::Happened;
@@ -17,6 +21,11 @@ const BOUND: u32 = 1000;
 
 // Room for the program.
 const ROOM: usize = 64;
+
+const EMPTY: Instruction = Instruction {
+    first: 0,
+    second: 0,
+};
 
 // The instruction at the pc as it is written, below the header line of the listing.
 fn line_at(listing: &str, pc: u32) -> &str {
@@ -46,7 +55,7 @@ fn show(rt: &LibcRuntime, happened: Happened, world: &World) -> Result<(), AnyEr
 }
 
 // Steps the machine until it answers, at most `BOUND` times.
-fn run(rt: &LibcRuntime, program: &[Instruction]) -> Result<(), AnyError> {
+fn trace(rt: &LibcRuntime, program: &[Instruction]) -> Result<(), AnyError> {
     let listing = print_program(rt.alloc(), program)?;
     let mut world = World::new(rt.alloc());
     for step in 1..=BOUND {
@@ -64,19 +73,22 @@ fn run(rt: &LibcRuntime, program: &[Instruction]) -> Result<(), AnyError> {
     Ok(())
 }
 
-fn start(rt: &LibcRuntime) -> Result<(), AnyError> {
-    let mut table = [Instruction {
-        first: 0,
-        second: 0,
-    }; ROOM];
-    let length = match assemble(TEXT, &mut table) {
-        Ok(length) => length,
+// Assembles a text into the table, and gives the length of the program; a refusal is told.
+fn assembled(rt: &LibcRuntime, text: &str, table: &mut [Instruction]) -> Result<usize, AnyError> {
+    match assemble(text, table) {
+        Ok(length) => Ok(length),
         Err(error) => {
             let refusal = error.refusal();
             println!(rt, "refused {} {}", refusal.number, refusal.value)?;
-            return Ok(());
+            Ok(0)
         }
-    };
+    }
+}
+
+// The fitting program step by step.
+fn fit(rt: &LibcRuntime) -> Result<(), AnyError> {
+    let mut table = [EMPTY; ROOM];
+    let length = assembled(rt, TEXT, &mut table)?;
     let targets = PRIMARY.len();
     let measured = AUXILIARY.len();
     println!(
@@ -84,7 +96,34 @@ fn start(rt: &LibcRuntime) -> Result<(), AnyError> {
         "program {length} primary {targets} auxiliary {measured}"
     )?;
     let program = table.get(0..length).unwrap_or(&[]);
-    run(rt, program)
+    trace(rt, program)?;
+    println!(rt, "its log:")?;
+    let job = Job {
+        program,
+        primary: &PRIMARY,
+        auxiliary: &AUXILIARY,
+        bound: BOUND,
+    };
+    log_run(rt, job)
+}
+
+// The sample and its log.
+fn sample(rt: &LibcRuntime) -> Result<(), AnyError> {
+    let mut table = [EMPTY; ROOM];
+    let length = assembled(rt, SAMPLE, &mut table)?;
+    println!(rt, "the sample:")?;
+    let job = Job {
+        program: table.get(0..length).unwrap_or(&[]),
+        primary: &[],
+        auxiliary: &[7],
+        bound: 9,
+    };
+    log_run(rt, job)
+}
+
+fn start(rt: &LibcRuntime) -> Result<(), AnyError> {
+    sample(rt)?;
+    fit(rt)
 }
 
 fn main(rt: LibcRuntime) -> Result<(), AnyError> {
