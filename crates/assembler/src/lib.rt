@@ -1,4 +1,6 @@
 // Programs as text: the instructions that a text stands for, in a lent table.
+#![tactic(auto)]
+
 pub mod error;
 mod known;
 mod labels;

@@ -1,4 +1,6 @@
 // Tests of the assembler and the printer, by tables that a script apart from the crates has worked out.
+#![tactic(auto)]
+
 #[cfg(test)]
 mod bad;
 #[cfg(test)]

@@ -5,7 +5,7 @@
 -- Assumes nothing.
 use Rattle.std.specs.Prelude.{◌≡◌, ℕ, ◌+◌, ◌≤◌, List, length, Ok, Result}
 use Rattle.dossier.specs.Meaning.{Meaning}
-use Rattle.log.specs.Words.{Exactly}
+use Rattle.run_log.specs.Words.{Exactly}
 use Rattle.rules.specs.declared.progress.Progress.{Progress}
 use Rattle.rules.specs.declared.call.Call.{Call}
 use Rattle.rules.specs.declared.call.Advanced.{Advanced}

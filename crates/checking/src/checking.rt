@@ -1,7 +1,7 @@
 // A checking, which takes a dossier's units by turns.
 ghost use Rattle.std.specs.Prelude.{◌≡◌, ◌+◌, ◌^◌, ◌<◌, ◌==◌};
 ghost use Rattle.dossier.specs.Meaning.{Made};
-ghost use Rattle.log.specs.Rules.{kind_of};
+ghost use Rattle.run_log.specs.Rules.{kind_of};
 ghost use Rattle.rules.specs.Checks.{judged};
 ghost use Rattle.rules.specs.Course.{begun, took, taking, advanced, advance_answer, reported, closing};
 ghost use Rattle.checking.specs.Laws.{Advances, ClosesAt};

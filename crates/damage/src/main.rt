@@ -1,5 +1,7 @@
 // Takes the bytes of a dossier from standard input, changes each byte by itself, and cuts them at each length,
 // and prints which answers that changes. Without a head it prints how many items are past their lists.
+#![tactic(auto)]
+
 use dossier::refusal::Part;
 use listing::answer::Answer;
 use listing::ask::answer;

@@ -1,5 +1,7 @@
 // Checks the dossiers on standard input, one to a line as a name and hex digits, over each holder and under
 // layers, all at once and unit by unit, and prints what the verdict says where all agree.
+#![tactic(auto)]
+
 mod tables;
 mod ways;
 

@@ -1,4 +1,6 @@
 // Tests of single steps, by tables that an interpreter apart from the crates has worked out.
+#![tactic(auto)]
+
 #[cfg(test)]
 mod bits;
 #[cfg(test)]

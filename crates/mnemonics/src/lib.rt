@@ -1,2 +1,4 @@
 // Instructions by their names.
+#![tactic(auto)]
+
 pub mod name;

@@ -1,4 +1,6 @@
 // How a checking begins under a head, and when it may go on.
+#![tactic(auto)]
+
 ghost use Rattle.std.specs.Prelude.{◌≡◌, ◌+◌, ◌^◌, ◌<◌, Ok};
 ghost use Rattle.rules.specs.Course.{in_limits, stopped, begun_by, refused, left};
 ghost use Rattle.outset.specs.Admitted.{admitted};

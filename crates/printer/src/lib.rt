@@ -1,3 +1,5 @@
 // Programs as text: the listing of instructions.
+#![tactic(auto)]
+
 pub mod listing;
 mod operation;

@@ -1,4 +1,6 @@
 // Checks the dossier on standard input and prints the receipt.
+#![tactic(auto)]
+
 ghost use Rattle.std.specs.Prelude.{◌≡◌};
 ghost use Rattle.codec.specs.Held.{meaning_of};
 ghost use Rattle.receipt.specs.Receipt.{within_limit, receipt_of};

@@ -22,7 +22,7 @@ use Rattle.rules.specs.declared.call.Outcome.TheVariants as outcome
 use Rattle.rules.specs.Units.{units}
 use Rattle.rules.specs.Course.{in_limits, stopped, ready, no_head, begun_by, begun, left, told, closing_by, closing, after_from, after, amount, taken_from, taken_by, advance_answer}
 use Rattle.rules.specs.Laws.{recordOr, program, primary, lines, rows, every_unit, Limits, Within, HeadWithin, Genuine, Closes, Acceptance, Advancing}
-use Rattle.log.specs.Words.{Exactly}
+use Rattle.run_log.specs.Words.{Exactly}
 use Rattle.rules.proofs.Whole.{whole, is_whole}
 use Rattle.rules.proofs.Taking.{no_none, run, reached}
 use Rattle.rules.proofs.Genuine.{Counts, all_readable, sound_units, complete_units, good_keeps, good_formed, keeps_good}

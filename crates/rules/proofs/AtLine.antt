@@ -6,7 +6,7 @@ use Rattle.dossier.specs.declared.record.Head.{Head}
 use Rattle.dossier.specs.declared.record.Line.{Line}
 use Rattle.dossier.specs.declared.record.Row.{Row}
 use Rattle.dossier.specs.Meaning.{row_answer}
-use Rattle.log.specs.Rules.{row_at, line_at, kind_of, touch_of, from_line, LineOrder, LineStep}
+use Rattle.run_log.specs.Rules.{row_at, line_at, kind_of, touch_of, from_line, LineOrder, LineStep}
 use Rattle.rules.specs.declared.finding.Rule.TheVariants as rule
 use Rattle.rules.specs.declared.progress.Unit as progress
 use Rattle.rules.specs.declared.progress.Unit.TheVariants as unit

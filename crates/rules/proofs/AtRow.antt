@@ -16,10 +16,10 @@ use Rattle.dossier.specs.declared.record.Touch.{Touch}
 use Rattle.dossier.specs.declared.record.Row.{Row}
 use Rattle.dossier.specs.declared.record.Row.TheVariants.{Plain, FromLine, FromStep, Advice, AdviceEnd}
 use Rattle.dossier.specs.declared.refusal.Part.TheVariants as part
-use Rattle.log.specs.Log.{zeroed}
-use Rattle.log.specs.Rules.{row_at, line_at, kind_of, touch_of, leads_to, from_step, LineOrigin, StepOrigin, LedOn, NextLink, RowLinks}
-use Rattle.log.specs.Run.{input_of, step_finding}
-use Rattle.log.proofs.Rows.{row_inside}
+use Rattle.run_log.specs.Log.{zeroed}
+use Rattle.run_log.specs.Rules.{row_at, line_at, kind_of, touch_of, leads_to, from_step, LineOrigin, StepOrigin, LedOn, NextLink, RowLinks}
+use Rattle.run_log.specs.Run.{input_of, step_finding}
+use Rattle.run_log.proofs.Rows.{row_inside}
 use Rattle.tinyram.specs.Program.{outside, word_at, supplied}
 use Rattle.rules.specs.declared.finding.Rule.TheVariants as rule
 use Rattle.rules.specs.declared.finding.Finding.{Finding}

@@ -5,8 +5,8 @@ use Rattle.machine.specs.declared.step.Demand.{Demand}
 use Rattle.machine.specs.declared.step.Demand.TheVariants as demand
 use Rattle.dossier.specs.declared.record.Row.{Row}
 use Rattle.dossier.specs.declared.record.Row.TheVariants.{Plain, FromLine, FromStep, Advice, AdviceEnd}
-use Rattle.log.specs.Rules.{kind_of, touch_of, test_touch}
-use Rattle.log.specs.Run.{step_finding, plain_finding, advice_finding, touch_finding}
+use Rattle.run_log.specs.Rules.{kind_of, touch_of, test_touch}
+use Rattle.run_log.specs.Run.{step_finding, plain_finding, advice_finding, touch_finding}
 use Rattle.tinyram.specs.Program.{outside}
 use Rattle.rules.specs.declared.finding.Rule.TheVariants as rule
 use Rattle.rules.specs.declared.progress.Unit.TheVariants as unit

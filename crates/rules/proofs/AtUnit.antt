@@ -9,8 +9,8 @@ use Rattle.dossier.specs.declared.record.Line.{Line}
 use Rattle.dossier.specs.declared.record.Row.{Row}
 use Rattle.dossier.specs.declared.record.Row.TheVariants.{Plain}
 use Rattle.dossier.specs.declared.refusal.Part.TheVariants as part
-use Rattle.log.specs.Rules.{row_at, line_at, kind_of, LineOrder, LineStep}
-use Rattle.log.specs.Run.{state_at, ended_by}
+use Rattle.run_log.specs.Rules.{row_at, line_at, kind_of, LineOrder, LineStep}
+use Rattle.run_log.specs.Run.{state_at, ended_by}
 use Rattle.tinyram.specs.Program.{tinyram}
 use Rattle.rules.specs.declared.finding.Rule.TheVariants as rule
 use Rattle.rules.specs.declared.progress.Unit as progress

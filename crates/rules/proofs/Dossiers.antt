@@ -9,7 +9,7 @@ use Rattle.dossier.specs.declared.record.Row.{Row}
 use Rattle.dossier.specs.declared.record.Row.TheVariants.{Plain}
 use Rattle.dossier.specs.Numbers.{Words, Fit, instruction_numbers, word_numbers, line_numbers, row_numbers}
 use Rattle.dossier.specs.Meaning.{Item, Meaning, Made, Readable, IsRecord, ItemFits, Each, counted}
-use Rattle.log.specs.Words.{Exactly}
+use Rattle.run_log.specs.Words.{Exactly}
 use Rattle.tinyram.specs.Program.{AcceptsIn, LogsRun, rows_of, lines_of}
 use Rattle.tinyram.proofs.Run.{program_logged, program_unique}
 use Rattle.tinyram.proofs.Kept.{program_words, program_counts}

@@ -10,10 +10,10 @@ use Rattle.dossier.specs.declared.record.Row.{Row}
 use Rattle.dossier.specs.declared.refusal.Part.{Part}
 use Rattle.dossier.specs.Numbers.{Fit, row_numbers}
 use Rattle.dossier.specs.Meaning.{Item, Meaning, Made, Readable, IsRecord, ItemFits, Each, item_answer, instruction_answer, word_answer, line_answer, row_answer}
-use Rattle.log.specs.Log.{zeroed}
-use Rattle.log.specs.Rules.{row_at, LineOrder, LineStep, RowLinks}
-use Rattle.log.specs.Run.{state_at, ended_by, step_finding}
-use Rattle.log.proofs.Tests.{step_row}
+use Rattle.run_log.specs.Log.{zeroed}
+use Rattle.run_log.specs.Rules.{row_at, LineOrder, LineStep, RowLinks}
+use Rattle.run_log.specs.Run.{state_at, ended_by, step_finding}
+use Rattle.run_log.proofs.Tests.{step_row}
 use Rattle.tinyram.specs.Program.{tinyram, outside, Keeps, LogsRun}
 use Rattle.tinyram.proofs.Run.{program_complete}
 use Rattle.tinyram.proofs.Numbers.{each_at, each_from}

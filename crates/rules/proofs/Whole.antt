@@ -8,7 +8,7 @@ use Rattle.dossier.specs.declared.record.Row.{Row}
 use Rattle.dossier.specs.declared.record.Row.TheVariants.{Plain}
 use Rattle.dossier.specs.declared.refusal.Part.{Part}
 use Rattle.dossier.specs.Meaning.{Item, Meaning, Readable, IsRecord, Each, item_answer, row_answer}
-use Rattle.log.specs.Rules.{row_at}
+use Rattle.run_log.specs.Rules.{row_at}
 use Rattle.rules.specs.Laws.{recordOr, program, primary, lines, rows}
 
 -- the dossier of these records

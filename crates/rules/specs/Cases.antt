@@ -7,7 +7,7 @@ use Rattle.dossier.specs.declared.record.Line.{Line}
 use Rattle.dossier.specs.declared.record.Row.{Row}
 use Rattle.dossier.specs.declared.refusal.Part.TheVariants as part
 use Rattle.dossier.specs.Meaning.{Meaning}
-use Rattle.log.specs.Sample.{rows_with, lines_with, sample_rows, sample_lines}
+use Rattle.run_log.specs.Sample.{rows_with, lines_with, sample_rows, sample_lines}
 use Rattle.tinyram.specs.Sample.{sample_program}
 use Rattle.rules.specs.declared.finding.Rule.TheVariants as rule
 use Rattle.rules.specs.declared.finding.Finding.TheVariants as finding

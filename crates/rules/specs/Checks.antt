@@ -20,8 +20,8 @@ use Rattle.dossier.specs.declared.record.Touch.{Touch}
 use Rattle.dossier.specs.declared.record.Row.{Row}
 use Rattle.dossier.specs.declared.record.Row.TheVariants.{Plain, FromLine, FromStep, Advice, AdviceEnd}
 use Rattle.dossier.specs.Meaning.{Meaning, instruction_answer, word_answer, line_answer, row_answer}
-use Rattle.log.specs.Rules.{kind_of, touch_of, test_touch, from_line, leads_to, from_step}
-use Rattle.log.specs.Run.{input_of}
+use Rattle.run_log.specs.Rules.{kind_of, touch_of, test_touch, from_line, leads_to, from_step}
+use Rattle.run_log.specs.Run.{input_of}
 use Rattle.rules.specs.declared.finding.Rule.TheVariants as rule
 use Rattle.rules.specs.declared.finding.Finding.{Finding}
 use Rattle.rules.specs.declared.progress.Unit as progress

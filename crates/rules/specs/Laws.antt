@@ -17,8 +17,8 @@ use Rattle.dossier.specs.declared.record.Row.{Row}
 use Rattle.dossier.specs.declared.record.Row.TheVariants.{Plain}
 use Rattle.dossier.specs.Numbers.{Words, Fit, instruction_numbers}
 use Rattle.dossier.specs.Meaning.{Item, Meaning, Made, Readable, Each}
-use Rattle.log.specs.Run.{advice_of}
-use Rattle.log.specs.Words.{Exactly}
+use Rattle.run_log.specs.Run.{advice_of}
+use Rattle.run_log.specs.Words.{Exactly}
 use Rattle.tinyram.specs.Program.{AcceptsIn, LogsRun}
 use Rattle.rules.specs.declared.call.Call.{Call}
 use Rattle.rules.specs.declared.call.Advanced.TheVariants as advanced-case

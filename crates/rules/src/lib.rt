@@ -1,4 +1,6 @@
 // The rules of a checking: what it finds, how far it has come, and what that says of a dossier.
+#![tactic(auto)]
+
 pub mod call;
 pub mod finding;
 pub mod progress;

@@ -7,12 +7,12 @@ use Rattle.dossier.specs.declared.record.Row.{Row}
 use Rattle.dossier.specs.declared.record.Row.TheVariants.{Plain, FromLine, FromStep, Advice, AdviceEnd}
 use Rattle.dossier.specs.declared.record.Touch.{Touch}
 use Rattle.dossier.specs.declared.record.Line.{Line}
-use Rattle.log.specs.Log.{Event, quiet, touch, zeroed, event_at, hits, left, touches, memory, touch_before, touch_after, line_of, log_lines, log_rows, row_of, event_of, events_of, Aligned}
-use Rattle.log.specs.Rules.{row_at, line_at, kind_of, touch_of, IsTouch, LineOrder, LineStep, LineOrigin, StepOrigin, LedOn, NextLink, RowLinks, Linked}
-use Rattle.log.specs.Words.{IsLast, IsNext}
-use Rattle.log.proofs.Sound.{sound}
-use Rattle.log.proofs.Find.{latest_is, next_cases, after_is}
-use Rattle.log.proofs.Rows.{event_row, hitting, log_row, length_events}
+use Rattle.run_log.specs.Log.{Event, quiet, touch, zeroed, event_at, hits, left, touches, memory, touch_before, touch_after, line_of, log_lines, log_rows, row_of, event_of, events_of, Aligned}
+use Rattle.run_log.specs.Rules.{row_at, line_at, kind_of, touch_of, IsTouch, LineOrder, LineStep, LineOrigin, StepOrigin, LedOn, NextLink, RowLinks, Linked}
+use Rattle.run_log.specs.Words.{IsLast, IsNext}
+use Rattle.run_log.proofs.Sound.{sound}
+use Rattle.run_log.proofs.Find.{latest_is, next_cases, after_is}
+use Rattle.run_log.proofs.Rows.{event_row, hitting, log_row, length_events}
 use Rattle.index.specs.declared.entry.CellEntry.{CellEntry}
 use Rattle.index.specs.Tree.{none, cell_of}
 use Rattle.index.specs.Order.{Arranged}

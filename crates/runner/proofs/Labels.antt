@@ -5,7 +5,7 @@ use Rattle.std.proofs.lemmas.List.{get_or_default}
 use Rattle.std.proofs.lemmas.Bool.{cases_lt, cases_eq}
 use Rattle.dossier.specs.declared.record.Row.{Row}
 use Rattle.dossier.specs.declared.record.Row.TheVariants.{Plain}
-use Rattle.log.specs.Rules.{row_at}
+use Rattle.run_log.specs.Rules.{row_at}
 use Rattle.runner.specs.Label.{with_line, Openings, Labelled}
 use Rattle.runner.proofs.Tables.{row_here, row_there, row_by}
 

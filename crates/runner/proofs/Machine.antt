@@ -5,8 +5,8 @@ use Rattle.machine.specs.declared.cpu.Cpu.{Cpu}
 use Rattle.machine.specs.declared.step.Demand.{Demand}
 use Rattle.machine.specs.declared.step.Demand.TheVariants.{Nothing, Cell, Primary, Advice, Halt}
 use Rattle.machine.specs.Effects as effects
-use Rattle.log.specs.Log.{Event, quiet, touch}
-use Rattle.log.specs.Run.{Config, given, shown, stored, unread, head, tail, heard}
+use Rattle.run_log.specs.Log.{Event, quiet, touch}
+use Rattle.run_log.specs.Run.{Config, given, shown, stored, unread, head, tail, heard}
 use Rattle.tinyram.specs.Program.{outside, supplied, operation, demand}
 use Rattle.runner.specs.declared.state.Input.{Input}
 use Rattle.runner.specs.Ending.{halted}

@@ -10,9 +10,9 @@ use Rattle.machine.specs.Effects.{asked, left, stepped}
 use Rattle.dossier.specs.declared.record.Row.{Row}
 use Rattle.dossier.specs.declared.record.Row.TheVariants as row
 use Rattle.dossier.specs.declared.record.Touch.{Touch}
-use Rattle.log.specs.Log.{Event, quiet, word, ended, touch, event_of}
-use Rattle.log.specs.Rules.{IsTouch}
-use Rattle.log.specs.Run.{head, tail, heard}
+use Rattle.run_log.specs.Log.{Event, quiet, word, ended, touch, event_of}
+use Rattle.run_log.specs.Rules.{IsTouch}
+use Rattle.run_log.specs.Run.{head, tail, heard}
 use Rattle.tinyram.specs.Program.{operation, demand}
 use Rattle.index.specs.declared.entry.CellEntry.{CellEntry}
 use Rattle.index.specs.declared.tree.Index.{Index}

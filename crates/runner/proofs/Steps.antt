@@ -5,8 +5,8 @@ use Rattle.std.proofs.lemmas.Bool.{cases_lt, cases_eq}
 use Rattle.dossier.specs.declared.record.Row.{Row}
 use Rattle.dossier.specs.declared.record.Row.TheVariants.{Plain, FromLine, FromStep, Advice, AdviceEnd}
 use Rattle.dossier.specs.declared.record.Touch.{Touch}
-use Rattle.log.specs.Log.{Event, event_of}
-use Rattle.log.specs.Rules.{kind_of, touch_of, IsTouch}
+use Rattle.run_log.specs.Log.{Event, event_of}
+use Rattle.run_log.specs.Rules.{kind_of, touch_of, IsTouch}
 use Rattle.index.specs.declared.entry.CellEntry.{CellEntry}
 use Rattle.runner.specs.Sofar.{link_to, FirstRow, LaterRow, NextRow, OpenAt, LastAt, Sofar}
 

@@ -6,9 +6,9 @@ use Rattle.std.proofs.lemmas.Bool.{cases_lt, cases_eq}
 use Rattle.dossier.specs.declared.record.Row.{Row}
 use Rattle.dossier.specs.declared.record.Row.TheVariants.{Plain, FromLine, FromStep, Advice, AdviceEnd}
 use Rattle.dossier.specs.declared.record.Touch.{Touch}
-use Rattle.log.specs.Log.{Event, event_of}
-use Rattle.log.specs.Log as log
-use Rattle.log.specs.Rules.{row_at, kind_of, touch_of, IsTouch}
+use Rattle.run_log.specs.Log.{Event, event_of}
+use Rattle.run_log.specs.Log as log
+use Rattle.run_log.specs.Rules.{row_at, kind_of, touch_of, IsTouch}
 use Rattle.index.specs.declared.entry.CellEntry.{CellEntry}
 use Rattle.index.specs.declared.tree.Index.{Index}
 use Rattle.index.specs.declared.tree.Seat.TheVariants.{Taken, Free}

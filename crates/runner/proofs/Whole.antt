@@ -7,10 +7,10 @@ use Rattle.machine.specs.State.{start}
 use Rattle.machine.specs.declared.cpu.Cpu.{Cpu}
 use Rattle.dossier.specs.declared.record.Row.{Row}
 use Rattle.dossier.specs.declared.record.Row.TheVariants.{Plain}
-use Rattle.log.specs.Log.{Event, quiet, zeroed, event_at, hits, log_rows, Aligned, touches}
-use Rattle.log.specs.Rules.{row_at, kind_of}
-use Rattle.log.specs.Run.{Demand, alone, advice, access, answer, Config, asked, shown, heard}
-use Rattle.log.proofs.Along.{trace_at, length_trace, heard_misses}
+use Rattle.run_log.specs.Log.{Event, quiet, zeroed, event_at, hits, log_rows, Aligned, touches}
+use Rattle.run_log.specs.Rules.{row_at, kind_of}
+use Rattle.run_log.specs.Run.{Demand, alone, advice, access, answer, Config, asked, shown, heard}
+use Rattle.run_log.proofs.Along.{trace_at, length_trace, heard_misses}
 use Rattle.tinyram.proofs.Run.{fourths}
 use Rattle.tinyram.specs.Program.{rows_of, lines_of, events_in}
 use Rattle.index.specs.declared.entry.CellEntry.{CellEntry}

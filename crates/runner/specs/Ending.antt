@@ -13,7 +13,7 @@ use Rattle.encoding.specs.declared.instruction.Instruction.{Instruction}
 use Rattle.machine.specs.declared.step.Demand.{Demand}
 use Rattle.machine.specs.declared.step.Demand.TheVariants.{Nothing, Cell, Primary, Advice, Halt}
 use Rattle.dossier.specs.declared.record.Line.{Line}
-use Rattle.log.specs.Log.{Event, zeroed, touch_before, memory, log_lines}
+use Rattle.run_log.specs.Log.{Event, zeroed, touch_before, memory, log_lines}
 use Rattle.tinyram.specs.Program.{demand, cpu_at, events_in, lines_of}
 use Rattle.index.specs.declared.entry.CellEntry.{CellEntry}
 use Rattle.runner.specs.declared.ending.Ending.{Ending}

@@ -15,9 +15,9 @@ use Rattle.machine.specs.declared.cpu.Cpu.{Cpu}
 use Rattle.machine.specs.declared.step.Demand.{Demand}
 use Rattle.machine.specs.declared.step.Demand.TheVariants.{Nothing, Cell, Primary, Advice, Halt}
 use Rattle.dossier.specs.declared.record.Row.{Row}
-use Rattle.log.specs.Log.{Event}
-use Rattle.log.specs.Rules.{row_at}
-use Rattle.log.specs.Run.{Machine, Config, after, shown_at}
+use Rattle.run_log.specs.Log.{Event}
+use Rattle.run_log.specs.Rules.{row_at}
+use Rattle.run_log.specs.Run.{Machine, Config, after, shown_at}
 use Rattle.tinyram.specs.Program.{tinyram, word_at}
 use Rattle.index.specs.declared.entry.CellEntry.{CellEntry}
 use Rattle.index.specs.declared.tree.Index.{Index}

@@ -14,8 +14,8 @@ use Rattle.std.specs.Prelude.{◌≡◌, ℕ, suc, ◌<◌, ◌≤◌, ◌⊎◌
 use Rattle.dossier.specs.declared.record.Row.{Row}
 use Rattle.dossier.specs.declared.record.Row.TheVariants.{Plain, FromLine, FromStep, Advice, AdviceEnd}
 use Rattle.dossier.specs.declared.record.Touch.{Touch}
-use Rattle.log.specs.Log.{Event, event_of}
-use Rattle.log.specs.Rules.{kind_of, touch_of, IsTouch}
+use Rattle.run_log.specs.Log.{Event, event_of}
+use Rattle.run_log.specs.Rules.{kind_of, touch_of, IsTouch}
 use Rattle.index.specs.declared.entry.CellEntry.{CellEntry}
 
 abbrev pub link_to : ℕ → Row → Row

@@ -1,6 +1,6 @@
 // The first touches' origins: the numbers of the opening lines.
 ghost use Rattle.std.specs.Prelude.{◌≡◌, ◌^◌, ◌<◌, ◌≤◌, length};
-ghost use Rattle.log.specs.Rules.{row_at};
+ghost use Rattle.run_log.specs.Rules.{row_at};
 ghost use Rattle.runner.specs.Label.{with_line, Openings, Labelled, first_of};
 
 use dossier::record::{Row, Touch};

@@ -1,4 +1,6 @@
 // A program's run, logged into tables that the caller lends.
+#![tactic(auto)]
+
 pub mod ending;
 mod label;
 mod limits;

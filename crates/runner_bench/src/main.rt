@@ -1,5 +1,7 @@
 // Steps per second of runs of 1,000,000 steps: one that stores into few cells, two that store into a new cell
 // at every other step, and the ratios. What it measures goes to standard error, since it differs from run to run.
+#![tactic(auto)]
+
 use dossier::record::Row;
 use encoding::instruction::Instruction;
 use index::entry::CellEntry;

@@ -1,4 +1,6 @@
 // Prints what the bytes of a dossier on standard input mean: the head, then the items, part by part.
+#![tactic(auto)]
+
 use dossier::refusal::Part;
 use listing::answer::Answer;
 use listing::ask::answer;

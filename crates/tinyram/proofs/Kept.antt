@@ -13,11 +13,11 @@ use Rattle.dossier.specs.Meaning.{Each}
 use Rattle.dossier.specs.declared.record.Row.{Row}
 use Rattle.dossier.specs.declared.record.Row.TheVariants.{Plain, FromLine, FromStep, Advice, AdviceEnd}
 use Rattle.dossier.specs.Numbers.{Words, Fit, instruction_numbers, row_numbers}
-use Rattle.log.specs.Log.{quiet, zeroed, event_at}
-use Rattle.log.specs.Run.{alone, advice, access, answer, Config, tail, heard, given, shown, stored, unread, asked, after, advice_of}
-use Rattle.log.specs.Run as run
-use Rattle.log.proofs.Rows.{length_log}
-use Rattle.log.proofs.Along.{trace_at, length_trace}
+use Rattle.run_log.specs.Log.{quiet, zeroed, event_at}
+use Rattle.run_log.specs.Run.{alone, advice, access, answer, Config, tail, heard, given, shown, stored, unread, asked, after, advice_of}
+use Rattle.run_log.specs.Run as run
+use Rattle.run_log.proofs.Rows.{length_log}
+use Rattle.run_log.proofs.Along.{trace_at, length_trace}
 use Rattle.tinyram.specs.Program.{word_at, supplied, operation, demand, tinyram, events_in, lines_of, ProgramCounts}
 use Rattle.tinyram.specs.Words.{CpuWords, InWords, ProgramWords, ProgramDecided}
 use Rattle.tinyram.proofs.Run.{operand_in, cell_asked, program_sound, program_complete}

@@ -8,12 +8,12 @@ use Rattle.dossier.specs.declared.record.Touch.{Touch}
 use Rattle.dossier.specs.declared.record.Line.{Line}
 use Rattle.dossier.specs.Meaning.{Each}
 use Rattle.dossier.specs.Numbers.{Words, Fit, line_numbers, touch_numbers, row_numbers}
-use Rattle.log.specs.Log.{Event, quiet, word, ended, touch, event_at, hits, left, add_line, open_for, openings, log_lines, log_rows}
-use Rattle.log.specs.Rules.{row_at, line_at}
-use Rattle.log.specs.Words.{After, Holds, Recorded, Records}
-use Rattle.log.proofs.Lines.{add_ways, touch_inside, log_opens}
-use Rattle.log.proofs.Rows.{length_log}
-use Rattle.log.proofs.Worded.{rows_of}
+use Rattle.run_log.specs.Log.{Event, quiet, word, ended, touch, event_at, hits, left, add_line, open_for, openings, log_lines, log_rows}
+use Rattle.run_log.specs.Rules.{row_at, line_at}
+use Rattle.run_log.specs.Words.{After, Holds, Recorded, Records}
+use Rattle.run_log.proofs.Lines.{add_ways, touch_inside, log_opens}
+use Rattle.run_log.proofs.Rows.{length_log}
+use Rattle.run_log.proofs.Worded.{rows_of}
 
 -- each element, by its place
 pub each_at : {X : Type 0} (P : X → Type 0) (xs : List X) (d : X) → Each P xs → P d → (i : ℕ) → P (get_or xs i d)

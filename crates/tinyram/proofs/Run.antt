@@ -12,10 +12,10 @@ use Rattle.machine.specs.Effects.{asked}
 use Rattle.word.specs.Cell.{cell_of}
 use Rattle.dossier.specs.declared.record.Row.{Row}
 use Rattle.dossier.specs.declared.record.Line.{Line}
-use Rattle.log.specs.Run.{alone, advice, access, answer, Fourths, Accepts, Logs, advice_of}
-use Rattle.log.specs.Run as run
-use Rattle.log.proofs.RunSound.{run_sound}
-use Rattle.log.proofs.RunComplete.{run_complete, run_unique, run_logged}
+use Rattle.run_log.specs.Run.{alone, advice, access, answer, Fourths, Accepts, Logs, advice_of}
+use Rattle.run_log.specs.Run as run
+use Rattle.run_log.proofs.RunSound.{run_sound}
+use Rattle.run_log.proofs.RunComplete.{run_complete, run_unique, run_logged}
 use Rattle.tinyram.specs.Program.{outside, operation, tinyram, cpu_at, executed, AcceptsIn, LogsRun}
 use Rattle.tinyram.specs.Program.{Accepting, ProgramSound, ProgramComplete, ProgramLogged, ProgramUnique}
 

@@ -23,11 +23,11 @@ use Rattle.machine.specs.State.{start, value_of}
 use Rattle.machine.specs.Effects.{fetched, asked, left, stepped}
 use Rattle.dossier.specs.declared.record.Row.{Row}
 use Rattle.dossier.specs.declared.record.Line.{Line}
-use Rattle.log.specs.Log.{Event, zeroed, log_rows, log_lines}
-use Rattle.log.specs.Rules.{Linked}
-use Rattle.log.specs.Run.{alone, advice, access, answer, Machine, after, trace, Accepts, advice_of, Fits}
-use Rattle.log.specs.Run as run
-use Rattle.log.specs.Words.{Exactly}
+use Rattle.run_log.specs.Log.{Event, zeroed, log_rows, log_lines}
+use Rattle.run_log.specs.Rules.{Linked}
+use Rattle.run_log.specs.Run.{alone, advice, access, answer, Machine, after, trace, Accepts, advice_of, Fits}
+use Rattle.run_log.specs.Run as run
+use Rattle.run_log.specs.Words.{Exactly}
 
 -- THE MACHINE
 

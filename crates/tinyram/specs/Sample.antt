@@ -3,7 +3,7 @@
 -- Assumes nothing.
 use Rattle.std.specs.Prelude.{◌≡◌, List, [], ◌∷◌}
 use Rattle.encoding.specs.declared.instruction.Instruction.{Instruction}
-use Rattle.log.specs.Sample.{sample_rows, sample_lines}
+use Rattle.run_log.specs.Sample.{sample_rows, sample_lines}
 use Rattle.tinyram.specs.Program.{AcceptsIn, rows_of, lines_of}
 
 -- `read r1, 1`; `store.w 8, r1`; `load.b r2, 8`; `cmpe r2, 7`; `cnjmp 6`; `answer 0`; `answer 1`

@@ -12,7 +12,7 @@ use Rattle.dossier.specs.Meaning.{Each}
 use Rattle.dossier.specs.Numbers.{Words, Fit, instruction_numbers, line_numbers, row_numbers}
 use Rattle.dossier.specs.declared.record.Row.{Row}
 use Rattle.dossier.specs.declared.record.Line.{Line}
-use Rattle.log.specs.Words.{Exactly}
+use Rattle.run_log.specs.Words.{Exactly}
 use Rattle.tinyram.specs.Program.{cpu_at, rows_of, lines_of, LogsRun, Keeps}
 
 pub record CpuWords (s : Cpu) : Type 0 where

@@ -1,4 +1,6 @@
 // Runs of programs on primary words and an auxiliary tape, and their logs.
+#![tactic(auto)]
+
 pub mod sample;
 
 ghost use Rattle.tinyram.specs.Program.{Accepting, ProgramSound, ProgramComplete, ProgramLogged, ProgramCounts, ProgramUnique};

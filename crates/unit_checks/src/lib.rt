@@ -1,4 +1,6 @@
 // The check of one unit of a dossier: its item, and its rules in their order.
+#![tactic(auto)]
+
 pub mod item;
 pub mod line;
 mod link;

@@ -1,6 +1,6 @@
 // The rules of instructions and lines.
 ghost use Rattle.std.specs.Prelude.{◌≡◌};
-ghost use Rattle.log.specs.Rules.{from_line};
+ghost use Rattle.run_log.specs.Rules.{from_line};
 ghost use Rattle.rules.specs.declared.finding.Rule.TheVariants.{LineStep};
 ghost use Rattle.rules.specs.Units.{place_of, then, needed, unless};
 ghost use Rattle.rules.specs.Checks.{checked_instruction, checked_line, above, within};

@@ -1,7 +1,7 @@
 // The rules of a touch's links: where it comes from, and where it leads on to.
 ghost use Rattle.std.specs.Prelude.{◌≡◌, ◌+◌};
 ghost use Rattle.dossier.specs.declared.record.Row.TheVariants.{FromLine, FromStep};
-ghost use Rattle.log.specs.Rules.{leads_to, from_step};
+ghost use Rattle.run_log.specs.Rules.{leads_to, from_step};
 ghost use Rattle.rules.specs.declared.finding.Rule.TheVariants.{Origin, Next};
 ghost use Rattle.rules.specs.Units.{place_of, then, needed, unless};
 ghost use Rattle.rules.specs.Checks.{opens_touch, checked_origin, checked_next};

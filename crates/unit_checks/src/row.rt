@@ -2,7 +2,7 @@
 ghost use Rattle.std.specs.Prelude.{◌≡◌, Some, Ok};
 ghost use Rattle.encoding.specs.Encoding.{meant};
 ghost use Rattle.machine.specs.Effects.{stepped};
-ghost use Rattle.log.specs.Run.{input_of};
+ghost use Rattle.run_log.specs.Run.{input_of};
 ghost use Rattle.rules.specs.Units.{then, needed};
 ghost use Rattle.rules.specs.Checks.{operation_at, got_at, checked_operation, checked_row};
 

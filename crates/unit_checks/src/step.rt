@@ -2,7 +2,7 @@
 ghost use Rattle.std.specs.Prelude.{◌≡◌};
 ghost use Rattle.machine.specs.Effects.{left};
 ghost use Rattle.rules.specs.Checks.{only_zero, halts_last, kind_fits, advice_fits, touch_fits, checked_step};
-ghost use Rattle.log.specs.Rules.{touch_of};
+ghost use Rattle.run_log.specs.Rules.{touch_of};
 
 use crate::unit::{check, step_of};
 use dossier::record::{Row, Touch};

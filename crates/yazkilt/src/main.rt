@@ -1,4 +1,6 @@
 // Assembles the sample and the fitting program from text, runs them to their answers, and prints their steps and logs.
+#![tactic(auto)]
+
 mod fitting;
 mod logged;
 mod world;

@@ -6,17 +6,17 @@ use Rattle.assembler.proofs.passes.write.Goals as goal
 pub put-at-requires : goal.put-at-requires
 put-at-requires c =
     let some : 0 < length c.loop-rest.rest.now = omega (arith, false-eqb _ 0 c.loop-rest-test.ensures) in
-    omega (arith, length_more (known c.args.labels.now) _ _ _ (c.next-line.ensures.lines some))
+    omega (arith, length_more (known c.args.labels.now) _ _ _ (c.next_line.ensures.lines some))
 
 pub loop-rest-smaller : goal.loop-rest-smaller
 loop-rest-smaller c =
     let some : 0 < length c.loop-rest.rest.now = omega (arith, false-eqb _ 0 c.loop-rest-test.ensures) in
-    c.next-line.ensures.shorter some
+    c.next_line.ensures.shorter some
 
 pub loop-rest-preserved : goal.loop-rest-preserved
 loop-rest-preserved c =
     let some : 0 < length c.loop-rest.rest.now = omega (arith, false-eqb _ 0 c.loop-rest-test.ensures) in
-    let e = c.next-line.ensures.lines some in
+    let e = c.next_line.ensures.lines some in
     (search rules, omega (arith, length_more (known c.args.labels.now) _ _ _ e, c.put-at.ensures.next), overlay_more (known c.args.labels.now) _ _ _ e c.loop-rest.at _ c.loop-rest.table _ _ c.loop-rest.invariant.2 c.put-at.ensures.next c.put-at.ensures.table)
 
 pub returns : goal.returns

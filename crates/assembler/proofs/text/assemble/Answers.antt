@@ -10,20 +10,20 @@ pub returns-then-is-short : goal.returns-then-is-short
 returns-then-is-short c =
     let h = c.in-ok-needed.ensures in
     record {
-      value = short_answer _ _ _ h.program h.needed _ (sym c.is-short.ensures ∙ c.if-is-short.true);
-      table = short_leaves _ _ _ h.program h.needed _ (sym c.is-short.ensures ∙ c.if-is-short.true);
+      value = short_answer _ _ _ h.program h.needed _ (sym c.is_short.ensures ∙ c.if-is-short.true);
+      table = short_leaves _ _ _ h.program h.needed _ (sym c.is_short.ensures ∙ c.if-is-short.true);
     }
 
 pub returns : goal.returns
 returns c =
     let h = c.in-ok-needed.ensures in
-    let e = ap (λ t. Ok (program (known c.prepare.new.labels) (lines t))) c.next-line.ensures.rest ∙ h.program in
+    let e = ap (λ t. Ok (program (known c.prepare.new.labels) (lines t))) c.next_line.ensures.rest ∙ h.program in
     record {
-      value = fit_answer _ _ _ e h.needed _ _ (sym c.is-short.ensures ∙ c.if-is-short.false) c.write.ensures.count;
-      table = fit_leaves _ _ _ e h.needed _ _ (sym c.is-short.ensures ∙ c.if-is-short.false) c.write.ensures.table;
+      value = fit_answer _ _ _ e h.needed _ _ (sym c.is_short.ensures ∙ c.if-is-short.false) c.write.ensures.count;
+      table = fit_leaves _ _ _ e h.needed _ _ (sym c.is_short.ensures ∙ c.if-is-short.false) c.write.ensures.table;
     }
 
 pub write-requires : goal.write-requires
 write-requires c =
     let h = c.in-ok-needed.ensures in
-    fits _ _ _ (ap (λ t. Ok (program (known c.prepare.new.labels) (lines t))) c.next-line.ensures.rest ∙ h.program) h.needed _ (sym c.is-short.ensures ∙ c.if-is-short.false)
+    fits _ _ _ (ap (λ t. Ok (program (known c.prepare.new.labels) (lines t))) c.next_line.ensures.rest ∙ h.program) h.needed _ (sym c.is_short.ensures ∙ c.if-is-short.false)

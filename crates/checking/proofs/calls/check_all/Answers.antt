@@ -9,9 +9,9 @@ pub returns : goal.returns
 returns g c =
     let m = g.D.Dossier.meaning c.args.dossier in
     record {
-      outcome = c.take-all.ensures.outcome;
-      head = c.take-all.ensures.head;
-      law = subst (AcceptsGenuine m) (sym c.take-all.ensures.outcome) (all_at_once m c.take-all.ensures.made);
+      outcome = c.take_all.ensures.outcome;
+      head = c.take_all.ensures.head;
+      law = subst (AcceptsGenuine m) (sym c.take_all.ensures.outcome) (all_at_once m c.take_all.ensures.made);
       acceptance = acceptance;
       existence = existence;
       uniqueness = uniqueness;

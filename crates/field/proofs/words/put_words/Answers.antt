@@ -8,7 +8,7 @@ use Rattle.field.proofs.words.put_words.Goals as goal
 pub loop-i-preserved : goal.loop-i-preserved
 loop-i-preserved c =
     let i = c.loop-i.i in
-    words_more c.args.words.now c.loop-i.bytes c.copy-from-slice.new.self i (4 * i + 4 - 4 * i) c.loop-i-test.true (omega arith) c.loop-i.invariant (c.copy-from-slice.ensures.after ∙ c.to-le-bytes.ensures)
+    words_more c.args.words.now c.loop-i.bytes c.copy_from_slice.new.self i (4 * i + 4 - 4 * i) c.loop-i-test.true (omega arith) c.loop-i.invariant (c.copy_from_slice.ensures.after ∙ c.to_le_bytes.ensures)
 
 pub returns : goal.returns
 returns c =

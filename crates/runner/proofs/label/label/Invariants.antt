@@ -1,4 +1,4 @@
-use Rattle.log.specs.Rules.{row_at}
+use Rattle.run_log.specs.Rules.{row_at}
 use Rattle.runner.specs.Label.{Labelled, first_of}
 use Rattle.runner.proofs.label.label.Given as goal
 

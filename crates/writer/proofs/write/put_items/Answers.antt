@@ -12,14 +12,14 @@ returns g c =
     let i = c.put-part-words.ensures in
     let w = c.put-part-lines.ensures in
     let l = c.put-part-rows.ensures in
-    let r = c.put-part.ensures in
+    let r = c.put_part.ensures in
     let out = c.args.out.now in
-    let ys = c.write-field.new.field in
+    let ys = c.write_field.new.field in
     let rest = drop 23 out in
     let long : length (take 23 out) ≡ 23 = let e = length-take 23 out in omega (arith, c.requires.room) in
-    let head = put_head c.args.head out ys rest c.write-field.ensures long in
+    let head = put_head c.args.head out ys rest c.write_field.ensures long in
     record {
       kept = r.kept;
       same = r.same ∙ l.same ∙ w.same ∙ i.same;
-      bytes = put_all m m1 m2 m3 c.args.head (put_mid 0 23 out ys) c.put-part-words.new.out c.put-part-lines.new.out c.put-part-rows.new.out c.put-part.new.out c.put-part-words.result c.put-part-lines.result c.put-part-rows.result c.put-part.result c.requires.under i.same w.same l.same head i.front w.front l.front r.front (omega arith);
+      bytes = put_all m m1 m2 m3 c.args.head (put_mid 0 23 out ys) c.put-part-words.new.out c.put-part-lines.new.out c.put-part-rows.new.out c.put_part.new.out c.put-part-words.result c.put-part-lines.result c.put-part-rows.result c.put_part.result c.requires.under i.same w.same l.same head i.front w.front l.front r.front (omega arith);
     }

@@ -6,13 +6,13 @@ use Rattle.writer.specs.Write.{items_answer}
 use Rattle.writer.proofs.Whole.{head_is, all_readable, write_ok, write_back}
 use Rattle.writer.proofs.write.write.Goals as goal
 
-pub put-items-requires : goal.put-items-requires
-put-items-requires g c =
+pub put_items-requires : goal.put_items-requires
+put_items-requires g c =
     let a = c.in-ok-head.ensures in
     let b = c.in-ok-try-items.ensures in
     let h = c.in-ok-head.head in
     let m = g.D.Dossier.meaning c.args.dossier.now in
-    let same : g.D.Dossier.meaning c.try-items.new.dossier ≡ m = b.same ∙ a.same in
+    let same : g.D.Dossier.meaning c.try_items.new.dossier ≡ m = b.same ∙ a.same in
     let under = head_is m.head h a.answer in
     let answers : items_answer m ≡ Ok tt = ap items_answer (sym a.same) ∙ sym b.answer in
     record {
@@ -27,12 +27,12 @@ pub returns : goal.returns
 returns g c =
     let a = c.in-ok-head.ensures in
     let b = c.in-ok-try-items.ensures in
-    let p = c.put-items.ensures in
+    let p = c.put_items.ensures in
     let h = c.in-ok-head.head in
     let n = c.file-size-size.result in
     let out = c.args.out.now in
     let m = g.D.Dossier.meaning c.args.dossier.now in
-    let same : g.D.Dossier.meaning c.try-items.new.dossier ≡ m = b.same ∙ a.same in
+    let same : g.D.Dossier.meaning c.try_items.new.dossier ≡ m = b.same ∙ a.same in
     let under = head_is m.head h a.answer in
     let answers : items_answer m ≡ Ok tt = ap items_answer (sym a.same) ∙ sym b.answer in
     let size : n ≡ file_size h = c.file-size-size.ensures in
@@ -43,5 +43,5 @@ returns g c =
       same = p.same ∙ same;
       answer = write_ok m h n (length out) a.answer answers size c.if-out-size.false;
       bytes = bytes;
-      back = λ k e. let ok : n ≡ k = cc in write_back m h n k (c.put-items.new.out ++ drop (n - 0) out) (drop n out) under a.made (all_readable m h under answers) size bytes ok;
+      back = λ k e. let ok : n ≡ k = cc in write_back m h n k (c.put_items.new.out ++ drop (n - 0) out) (drop n out) under a.made (all_readable m h under answers) size bytes ok;
     }

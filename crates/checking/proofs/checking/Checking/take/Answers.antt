@@ -8,9 +8,9 @@ returns-in-Ok g c =
     let p = c.args.self.now.progress in
     let m = g.D.Dossier.meaning c.args.self.now.dossier in
     record {
-      kept = c.check-unit.ensures.kept;
-      same = c.check-unit.ensures.same;
-      progress = moved_ok p c.check-unit.new.self.progress (checked_now m p) c.check-unit.ensures.progress c.in-Ok.ensures.answer;
+      kept = c.check_unit.ensures.kept;
+      same = c.check_unit.ensures.same;
+      progress = moved_ok p c.check_unit.new.self.progress (checked_now m p) c.check_unit.ensures.progress c.in-Ok.ensures.answer;
     }
 
 pub returns-in-Err : goal.returns-in-Err
@@ -18,7 +18,7 @@ returns-in-Err g c =
     let p = c.args.self.now.progress in
     let m = g.D.Dossier.meaning c.args.self.now.dossier in
     record {
-      kept = c.check-unit.ensures.kept;
-      same = c.check-unit.ensures.same;
-      progress = moved_err p c.check-unit.new.self.progress (checked_now m p) c.in-Err.finding c.check-unit.ensures.progress c.in-Err.ensures.answer;
+      kept = c.check_unit.ensures.kept;
+      same = c.check_unit.ensures.same;
+      progress = moved_err p c.check_unit.new.self.progress (checked_now m p) c.in-Err.finding c.check_unit.ensures.progress c.in-Err.ensures.answer;
     }

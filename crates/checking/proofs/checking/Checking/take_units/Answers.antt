@@ -9,7 +9,7 @@ returns-then-is-some g c =
     let m = g.D.Dossier.meaning c.args.self.now.dossier in
     let inv = c.loop.invariant in
     let few : c.loop.counter ≤ c.args.k = omega arith in
-    let some = ap (λ (q : Progress). is_some q.finding) (sym inv.2) ∙ sym c.is-some.ensures ∙ c.if-is-some.true in
+    let some = ap (λ (q : Progress). is_some q.finding) (sym inv.2) ∙ sym c.is_some.ensures ∙ c.if-is-some.true in
     record {
       kept = inv.0;
       same = inv.1;
@@ -27,6 +27,6 @@ loop-preserved g c =
     let most = took_taken n q r c.take.ensures.progress in (
       c.take.ensures.kept,
       c.take.ensures.same ∙ inv.1,
-      taking_more m n p q r c.loop.counter inv.1 inv.2 (sym c.is-some.ensures ∙ c.if-is-some.false) c.take.ensures.progress,
+      taking_more m n p q r c.loop.counter inv.1 inv.2 (sym c.is_some.ensures ∙ c.if-is-some.false) c.take.ensures.progress,
       omega arith,
     )

@@ -18,5 +18,5 @@ returns c =
     record {
       kept = c.requires;
       same = refl;
-      answer = c.item.ensures ∙ ap (λ x. item_answer part.Line k (slice_get (items line_read 11 c.in-Some.head.lines (drop x bs)) k)) c.lines-start.ensures ∙ ap (λ x. line_answer (held x bs) k) (sym c.in-Some.is ∙ c.requires.1);
+      answer = c.item.ensures ∙ ap (λ x. item_answer part.Line k (slice_get (items line_read 11 c.in-Some.head.lines (drop x bs)) k)) c.lines_start.ensures ∙ ap (λ x. line_answer (held x bs) k) (sym c.in-Some.is ∙ c.requires.1);
     }

@@ -18,5 +18,5 @@ returns c =
     record {
       kept = c.requires;
       same = refl;
-      answer = c.item.ensures ∙ ap (λ x. item_answer part.Row k (slice_get (items row_read 24 c.in-Some.head.rows (drop x bs)) k)) c.rows-start.ensures ∙ ap (λ x. row_answer (held x bs) k) (sym c.in-Some.is ∙ c.requires.1);
+      answer = c.item.ensures ∙ ap (λ x. item_answer part.Row k (slice_get (items row_read 24 c.in-Some.head.rows (drop x bs)) k)) c.rows_start.ensures ∙ ap (λ x. row_answer (held x bs) k) (sym c.in-Some.is ∙ c.requires.1);
     }

@@ -15,5 +15,5 @@ returns g c =
     record {
       kept = search rules;
       same = search rules;
-      answer = pair_answer instruction_numbers part.Instruction c.args.place (λ h. h.instructions) (λ g h e. grind (arith, nat_tests)) a.head b.head a.instructions b.instructions pair.head c.instruction.result c.instruction-2.result c.common.result counts-a counts-b c.requires.4 (sym c.under_head.ensures ∙ c.in-ok-under-head.was) c.instruction.ensures.answer c.instruction-2.ensures.answer c.common.ensures;
+      answer = pair_answer instruction_numbers part.Instruction c.args.place (λ h. h.instructions) (λ g h e. grind (arith, nat_tests)) a.head b.head a.instructions b.instructions pair.head c.instruction.result c.instruction-2.result c.common.result counts-a counts-b c.requires.4 (sym c.under_head.ensures ∙ c.in_ok-under_head.was) c.instruction.ensures.answer c.instruction-2.ensures.answer c.common.ensures;
     }

@@ -15,5 +15,5 @@ returns g c =
     record {
       kept = search rules;
       same = search rules;
-      answer = pair_answer line_numbers part.Line c.args.place (λ h. h.lines) (λ g h e. grind (arith, nat_tests)) a.head b.head a.lines b.lines pair.head c.line.result c.line-2.result c.common.result counts-a counts-b c.requires.4 (sym c.under_head.ensures ∙ c.in-ok-under-head.was) c.line.ensures.answer c.line-2.ensures.answer c.common.ensures;
+      answer = pair_answer line_numbers part.Line c.args.place (λ h. h.lines) (λ g h e. grind (arith, nat_tests)) a.head b.head a.lines b.lines pair.head c.line.result c.line-2.result c.common.result counts-a counts-b c.requires.4 (sym c.under_head.ensures ∙ c.in_ok-under_head.was) c.line.ensures.answer c.line-2.ensures.answer c.common.ensures;
     }

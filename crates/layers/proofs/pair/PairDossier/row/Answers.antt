@@ -15,5 +15,5 @@ returns g c =
     record {
       kept = search rules;
       same = search rules;
-      answer = pair_answer row_numbers part.Row c.args.place (λ h. h.rows) (λ g h e. grind (arith, nat_tests)) a.head b.head a.rows b.rows pair.head c.row.result c.row-2.result c.common.result counts-a counts-b c.requires.4 (sym c.under_head.ensures ∙ c.in-ok-under-head.was) c.row.ensures.answer c.row-2.ensures.answer c.common.ensures;
+      answer = pair_answer row_numbers part.Row c.args.place (λ h. h.rows) (λ g h e. grind (arith, nat_tests)) a.head b.head a.rows b.rows pair.head c.row.result c.row-2.result c.common.result counts-a counts-b c.requires.4 (sym c.under_head.ensures ∙ c.in_ok-under_head.was) c.row.ensures.answer c.row-2.ensures.answer c.common.ensures;
     }

@@ -15,5 +15,5 @@ returns g c =
     record {
       kept = search rules;
       same = search rules;
-      answer = pair_answer word_numbers part.Word c.args.place (λ h. h.words) (λ g h e. grind (arith, nat_tests)) a.head b.head a.words b.words pair.head c.word.result c.word-2.result c.common.result counts-a counts-b c.requires.4 (sym c.under_head.ensures ∙ c.in-ok-under-head.was) c.word.ensures.answer c.word-2.ensures.answer c.common.ensures;
+      answer = pair_answer word_numbers part.Word c.args.place (λ h. h.words) (λ g h e. grind (arith, nat_tests)) a.head b.head a.words b.words pair.head c.word.result c.word-2.result c.common.result counts-a counts-b c.requires.4 (sym c.under_head.ensures ∙ c.in_ok-under_head.was) c.word.ensures.answer c.word-2.ensures.answer c.common.ensures;
     }

@@ -21,5 +21,5 @@ returns c =
     record {
       kept = c.requires;
       same = refl;
-      answer = ap Ok c.instruction-words.ensures ∙ read instruction_words part.Instruction c.requires.1 d.program.now c.args.place _ c.in-ok-found.ensures;
+      answer = ap Ok c.instruction_words.ensures ∙ read instruction_words part.Instruction c.requires.1 d.program.now c.args.place _ c.in-ok-found.ensures;
     }

@@ -21,5 +21,5 @@ returns c =
     record {
       kept = c.requires;
       same = refl;
-      answer = ap Ok c.row-words.ensures ∙ read row_words part.Row c.requires.1 d.rows.now c.args.place _ c.in-ok-found.ensures;
+      answer = ap Ok c.row_words.ensures ∙ read row_words part.Row c.requires.1 d.rows.now c.args.place _ c.in-ok-found.ensures;
     }

@@ -21,5 +21,5 @@ returns c =
     record {
       kept = c.requires;
       same = refl;
-      answer = ap Ok c.one-word.ensures ∙ read word part.Word c.requires.1 d.primary.now c.args.place _ c.in-ok-found.ensures;
+      answer = ap Ok c.one_word.ensures ∙ read word part.Word c.requires.1 d.primary.now c.args.place _ c.in-ok-found.ensures;
     }
