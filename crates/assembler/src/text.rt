@@ -17,7 +17,7 @@ const HEADER: &[u8; 32] = b"; TinyRAM V=2.000 M=hv W=32 K=16";
 fn is_header(line: &str) -> bool
     ensures { result ≡ bytes_eq line.now header }
 {
-    line.as_bytes() == HEADER
+    line.as_bytes() == HEADER.as_slice()
 }
 
 // Takes the header and the labels of a text, and answers how many entries the program needs.

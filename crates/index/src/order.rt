@@ -54,5 +54,5 @@ pub fn arrange(cells: &mut [CellEntry], count: usize)
     requires apart { Apart count cells.old }
     ensures { Arranged count cells.old cells.new }
 {
-    cells[..count].sort();
+    cells[..count].sort_unstable();
 }

@@ -5,5 +5,5 @@ use Rattle.codec.specs.Held.{measured}
 use Rattle.codec.proofs.Items.{short_field}
 use Rattle.codec.proofs.holder.head_of.Goals as goal
 
-pub returns-then-bytes-lt-HEAD-SIZE : goal.returns-then-bytes-lt-HEAD-SIZE
-returns-then-bytes-lt-HEAD-SIZE c = sym (ap (λ x. measured x (length c.args.bytes.now)) (short_field 1 20 head_parsed 23 c.args.bytes.now (omega arith)))
+pub returns-then-bytes-lt-HEAD_SIZE : goal.returns-then-bytes-lt-HEAD_SIZE
+returns-then-bytes-lt-HEAD_SIZE c = sym (ap (λ x. measured x (length c.args.bytes.now)) (short_field 1 20 head_parsed 23 c.args.bytes.now (omega arith)))

@@ -6,7 +6,7 @@ use Rattle.codec.proofs.holder.item.Given as given
 use Rattle.codec.proofs.holder.item.Goals as goal
 
 -- the field ends within the bytes
-within : (g : given.Over) (c : goal.After-payload-size g) → c.args.start + (3 + c.payload_size.result) * c.args.place + (3 + c.payload_size.result) ≤ length c.args.bytes.now
+within : (g : given.Over) (c : goal.After-payload_size g) → c.args.start + (3 + c.payload_size.result) * c.args.place + (3 + c.payload_size.result) ≤ length c.args.bytes.now
 within g c =
     let e = c.payload_size.ensures in
     let r = room (3 + c.payload_size.result) c.args.place c.args.count c.if-place-count.false in
@@ -24,8 +24,8 @@ overflow_add-at g c = let w = within g c in omega arith
 pub overflow_add-at-2 : goal.overflow_add-at-2
 overflow_add-at-2 g c = let w = within g c in omega arith
 
-pub slice-bounds-read-field-end : goal.slice-bounds-read-field-end
-slice-bounds-read-field-end g c = let w = within g c in omega arith
+pub slice_bounds-read_field-end : goal.slice_bounds-read_field-end
+slice_bounds-read_field-end g c = let w = within g c in omega arith
 
 pub returns-in-Some : goal.returns-in-Some
 returns-in-Some g c =

@@ -14,8 +14,8 @@ overflow_add-at g c =
     let w = in_room c.args.start (3 + g.K.Kind.sized) (3 + c.payload_size.result) c.loop-place.at c.loop-place.place c.args.count (length c.args.out.now) e c.loop-place.invariant.2 c.loop-place-test.true c.requires.room in
     omega arith
 
-pub slice-bounds-put-item-end : goal.slice-bounds-put-item-end
-slice-bounds-put-item-end g c =
+pub slice_bounds-put_item-end : goal.slice_bounds-put_item-end
+slice_bounds-put_item-end g c =
     let e : 3 + c.payload_size.result ≡ 3 + g.K.Kind.sized = ap (λ x. 3 + x) c.payload_size.ensures in
     let w = in_room c.args.start (3 + g.K.Kind.sized) (3 + c.payload_size.result) c.loop-place.at c.loop-place.place c.args.count (length c.args.out.now) e c.loop-place.invariant.2 c.loop-place-test.true c.requires.room in
     omega arith

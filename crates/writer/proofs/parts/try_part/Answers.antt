@@ -5,30 +5,30 @@ use Rattle.dossier.specs.Meaning.{Meaning, item_answer}
 use Rattle.writer.proofs.Faults.{fault_here, fault_later, fault_none}
 use Rattle.writer.proofs.parts.try_part.Goals as goal
 
-pub returns-in-err-ask : goal.returns-in-err-ask
-returns-in-err-ask g c =
-    let p = err_from_is_err_and c.from-residual.result c.from-residual.ensures.1 in
-    let told = c.in-err-ask.ensures in
+pub returns-in_err-ask : goal.returns-in_err-ask
+returns-in_err-ask g c =
+    let p = err_from_is_err_and c.from_residual.result c.from_residual.ensures.1 in
+    let told = c.in_err-ask.ensures in
     let inv = c.loop-place.invariant in
     let place = c.loop-place.place in
     let m = g.D.Dossier.meaning c.args.dossier.now in
     let xs = g.K.Listed.list m in
     let within : place < length xs = omega (arith, c.requires.counts) in
     let said = told.answer ∙ ap (λ (x : Meaning). item_answer g.K.Listed.stands place (slice_get (g.K.Listed.list x) place)) inv.1 in
-    let fault = fault_here g.K.Listed.stands place place xs c.in-err-ask.field-0.0 within said in
+    let fault = fault_here g.K.Listed.stands place place xs c.in_err-ask.field-0.0 within said in
     let same = p.2 in
     record { kept = told.kept; same = told.same ∙ inv.1; answer = p.1 ∙ ap Err same ∙ sym fault ∙ inv.2 }
 
 pub loop-place-preserved : goal.loop-place-preserved
 loop-place-preserved g c =
-    let told = c.in-ok-ask.ensures in
+    let told = c.in_ok-ask.ensures in
     let inv = c.loop-place.invariant in
     let place = c.loop-place.place in
     let m = g.D.Dossier.meaning c.args.dossier.now in
     let xs = g.K.Listed.list m in
     let within : place < length xs = omega (arith, c.requires.counts) in
     let said = told.answer ∙ ap (λ (x : Meaning). item_answer g.K.Listed.stands place (slice_get (g.K.Listed.list x) place)) inv.1 in
-    (told.kept, told.same ∙ inv.1, fault_later g.K.Listed.stands place place xs c.in-ok-ask.field-0 within said ∙ inv.2)
+    (told.kept, told.same ∙ inv.1, fault_later g.K.Listed.stands place place xs c.in_ok-ask.field-0 within said ∙ inv.2)
 
 pub returns : goal.returns
 returns g c =

@@ -6,12 +6,12 @@ use Rattle.writer.proofs.write.put_items.Goals as goal
 pub returns : goal.returns
 returns g c =
     let m = g.D.Dossier.meaning c.args.dossier.now in
-    let m1 = g.D.Dossier.meaning c.put-part-words.new.dossier in
-    let m2 = g.D.Dossier.meaning c.put-part-lines.new.dossier in
-    let m3 = g.D.Dossier.meaning c.put-part-rows.new.dossier in
-    let i = c.put-part-words.ensures in
-    let w = c.put-part-lines.ensures in
-    let l = c.put-part-rows.ensures in
+    let m1 = g.D.Dossier.meaning c.put_part-words.new.dossier in
+    let m2 = g.D.Dossier.meaning c.put_part-lines.new.dossier in
+    let m3 = g.D.Dossier.meaning c.put_part-rows.new.dossier in
+    let i = c.put_part-words.ensures in
+    let w = c.put_part-lines.ensures in
+    let l = c.put_part-rows.ensures in
     let r = c.put_part.ensures in
     let out = c.args.out.now in
     let ys = c.write_field.new.field in
@@ -21,5 +21,5 @@ returns g c =
     record {
       kept = r.kept;
       same = r.same ∙ l.same ∙ w.same ∙ i.same;
-      bytes = put_all m m1 m2 m3 c.args.head (put_mid 0 23 out ys) c.put-part-words.new.out c.put-part-lines.new.out c.put-part-rows.new.out c.put_part.new.out c.put-part-words.result c.put-part-lines.result c.put-part-rows.result c.put_part.result c.requires.under i.same w.same l.same head i.front w.front l.front r.front (omega arith);
+      bytes = put_all m m1 m2 m3 c.args.head (put_mid 0 23 out ys) c.put_part-words.new.out c.put_part-lines.new.out c.put_part-rows.new.out c.put_part.new.out c.put_part-words.result c.put_part-lines.result c.put_part-rows.result c.put_part.result c.requires.under i.same w.same l.same head i.front w.front l.front r.front (omega arith);
     }

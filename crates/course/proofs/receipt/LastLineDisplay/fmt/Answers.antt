@@ -7,4 +7,4 @@ use Rattle.course.proofs.receipt.LastLineDisplay.fmt.Goals as goal
 pub returns-in-Unfinished-clause-writes : goal.returns-in-Unfinished-clause-writes
 returns-in-Unfinished-clause-writes g c = λ plain ok.
     subst (λ (o : Outcome). HasWritten g.W.Write.write_str_gives c.args.f.now (last_line o) c.write-in-Unfinished.new.self)
-    (sym c.in-Unfinished.is) (c.write-in-Unfinished.ensures.shows plain ok)
+    (sym c.in-Unfinished.is) (c.write-in-Unfinished.ensures.writes plain ok)

@@ -17,7 +17,7 @@ returns-in-Unreadable-clause-writes g c = λ plain ok.
     let after = c.write-in-Unreadable.new.self in
     let place = c.in-Unreadable.place in
     let fault = c.in-Unreadable.fault in
-    let q = c.part-number-fault-part.result in
+    let q = c.part_number-fault_part.result in
     subst (λ (x : Finding). HasWritten took before (finding_text x) after) (sym c.in-Unreadable.is)
-    (subst (λ (n : ℕ). HasWritten took before (text (part_number c.in-Unreadable.part) place n fault.place fault.layer) after) c.part-number-fault-part.ensures
-    (subst (λ (n : ℕ). HasWritten took before (text n place q fault.place fault.layer) after) c.part-number-part-in-Unreadable.ensures (c.write-in-Unreadable.ensures.shows plain ok)))
+    (subst (λ (n : ℕ). HasWritten took before (text (part_number c.in-Unreadable.part) place n fault.place fault.layer) after) c.part_number-fault_part.ensures
+    (subst (λ (n : ℕ). HasWritten took before (text n place q fault.place fault.layer) after) c.part_number-part-in-Unreadable.ensures (c.write-in-Unreadable.ensures.writes plain ok)))
