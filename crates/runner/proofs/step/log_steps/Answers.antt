@@ -32,7 +32,7 @@ loop-progress-preserved c =
       beyond_trans t.grown inv.2 t.past,
       omega (arith, t.steps, c.loop-progress-test.true),
       ends_later i.program.now i.primary.now i.auxiliary.now i.bound s.steps inv.4 c.turn-progress.result.steps
-          (sym t.answer ∙ c.in-default.is) t.steps,
+          (sym t.answer ∙ c.in_default.is) t.steps,
     )
 
 pub returns : goal.returns

@@ -5,14 +5,14 @@ use Rattle.table.specs.Held.{word}
 use Rattle.table.proofs.Answered.{refused, read}
 use Rattle.table.proofs.holder.TableDossierDossier.word.Goals as goal
 
-pub returns-in-err-found : goal.returns-in-err-found
-returns-in-err-found c =
+pub returns-in_err-found : goal.returns-in_err-found
+returns-in_err-found c =
     let d = c.args.self.now in
-    let p = err_from_is_err_and c.from-residual.result c.from-residual.ensures.1 in
+    let p = err_from_is_err_and c.from_residual.result c.from_residual.ensures.1 in
     record {
       kept = c.requires;
       same = refl;
-      answer = p.1 ∙ ap Err p.2 ∙ refused word part.Word c.requires.1 d.primary.now c.args.place _ c.in-err-found.ensures;
+      answer = p.1 ∙ ap Err p.2 ∙ refused word part.Word c.requires.1 d.primary.now c.args.place _ c.in_err-found.ensures;
     }
 
 pub returns : goal.returns
@@ -21,5 +21,5 @@ returns c =
     record {
       kept = c.requires;
       same = refl;
-      answer = ap Ok c.one_word.ensures ∙ read word part.Word c.requires.1 d.primary.now c.args.place _ c.in-ok-found.ensures;
+      answer = ap Ok c.one_word.ensures ∙ read word part.Word c.requires.1 d.primary.now c.args.place _ c.in_ok-found.ensures;
     }
