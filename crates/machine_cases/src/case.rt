@@ -2,6 +2,7 @@
 use encoding::instruction::Instruction;
 use machine::cpu::Cpu;
 use machine::step::{Demand, after, asks, execute};
+use std::process::Abort;
 use std::test::*;
 
 // The state before has pc 5, r1 = x, r2 = y, r3 = 99, the flag, and four primary words read; all else is 0.
@@ -42,7 +43,7 @@ impl Case {
     }
 
     // Whether the step does what is expected, in the whole state.
-    pub fn check(&self) -> Result<(), Fail> {
+    pub fn check(&self, rt: &impl Abort) -> Result<(), Fail> {
         let cpu = Cpu {
             pc: 5,
             registers: self.registers(99),
@@ -54,19 +55,24 @@ impl Case {
             second: self.second,
         };
         let operation = instruction.decode().ok_or("ill formed")?;
-        assert_eq!(operation.encode(), Some(instruction), "{}", self.text);
-        assert_eq!(numbered(asks(operation, &cpu)), self.asks, "{}", self.text);
-        assert_eq!(
+        assert_eq!(rt; operation.encode(), Some(instruction), "{}", self.text);
+        assert_eq!(rt; numbered(asks(operation, &cpu)), self.asks, "{}", self.text);
+        assert_eq!(rt;
             after(operation, &cpu, self.got.unwrap_or(0)),
             self.leaves,
             "{}",
             self.text
         );
         let next = execute(cpu, operation, self.got);
-        assert_eq!(next.registers, self.registers(self.result), "{}", self.text);
-        assert_eq!(next.flag, self.flag_after, "{}", self.text);
-        assert_eq!(next.pc, self.pc_after, "{}", self.text);
-        assert_eq!(next.place, self.place_after, "{}", self.text);
+        assert_eq!(rt;
+            next.registers,
+            self.registers(self.result),
+            "{}",
+            self.text
+        );
+        assert_eq!(rt; next.flag, self.flag_after, "{}", self.text);
+        assert_eq!(rt; next.pc, self.pc_after, "{}", self.text);
+        assert_eq!(rt; next.place, self.place_after, "{}", self.text);
         Ok(())
     }
 }

@@ -3,65 +3,65 @@ use crate::{bits, compares, integers, jumps, memory, moves, shifts, tapes};
 use std::test::*;
 
 #[test]
-fn bit_operations() -> Result<(), Fail> {
+fn bit_operations(rt: HostRuntime) -> Result<(), Fail> {
     for case in &bits::CASES {
-        case.check()?;
+        case.check(&rt)?;
     }
     Ok(())
 }
 
 #[test]
-fn integer_operations() -> Result<(), Fail> {
+fn integer_operations(rt: HostRuntime) -> Result<(), Fail> {
     for case in &integers::CASES {
-        case.check()?;
+        case.check(&rt)?;
     }
     Ok(())
 }
 
 #[test]
-fn shift_operations() -> Result<(), Fail> {
+fn shift_operations(rt: HostRuntime) -> Result<(), Fail> {
     for case in &shifts::CASES {
-        case.check()?;
+        case.check(&rt)?;
     }
     Ok(())
 }
 
 #[test]
-fn comparisons() -> Result<(), Fail> {
+fn comparisons(rt: HostRuntime) -> Result<(), Fail> {
     for case in &compares::CASES {
-        case.check()?;
+        case.check(&rt)?;
     }
     Ok(())
 }
 
 #[test]
-fn move_operations() -> Result<(), Fail> {
+fn move_operations(rt: HostRuntime) -> Result<(), Fail> {
     for case in &moves::CASES {
-        case.check()?;
+        case.check(&rt)?;
     }
     Ok(())
 }
 
 #[test]
-fn jumps_and_answers() -> Result<(), Fail> {
+fn jumps_and_answers(rt: HostRuntime) -> Result<(), Fail> {
     for case in &jumps::CASES {
-        case.check()?;
+        case.check(&rt)?;
     }
     Ok(())
 }
 
 #[test]
-fn loads_and_stores() -> Result<(), Fail> {
+fn loads_and_stores(rt: HostRuntime) -> Result<(), Fail> {
     for case in &memory::CASES {
-        case.check()?;
+        case.check(&rt)?;
     }
     Ok(())
 }
 
 #[test]
-fn reads() -> Result<(), Fail> {
+fn reads(rt: HostRuntime) -> Result<(), Fail> {
     for case in &tapes::CASES {
-        case.check()?;
+        case.check(&rt)?;
     }
     Ok(())
 }
