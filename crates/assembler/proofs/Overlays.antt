@@ -1,5 +1,5 @@
 -- Instructions laid over a table. Assumes nothing.
-use Rattle.std.proofs.Common.{◌≡◌, ℕ, zero, suc, ◌+◌, ◌≤◌, List, [], ◌∷◌, ◌++◌, length, drop, set, sym, refl, ap, ◌∙◌, arith, length-append}
+use Rattle.std.proofs.Common.{◌≡◌, ℕ, suc, ◌+◌, ◌≤◌, List, [], ◌∷◌, ◌++◌, length, drop, set, sym, refl, ap, ◌∙◌, arith, length-append}
 use Rattle.encoding.specs.declared.instruction.Instruction.{Instruction}
 use Rattle.lexer.specs.Lines.{lines}
 use Rattle.assembler.specs.Resolve.{line_gives}

@@ -1,5 +1,5 @@
 -- One turn of a pass, by the lines that are left before and after it. Assumes nothing.
-use Rattle.std.proofs.Common.{◌≡◌, ℕ, ◌+◌, ◌≤◌, List, [], ◌∷◌, ◌++◌, length, Ok, Err, Result, refl, ap, ◌∙◌, arith}
+use Rattle.std.proofs.Common.{◌≡◌, ℕ, ◌+◌, ◌≤◌, List, [], ◌∷◌, ◌++◌, length, Ok, Err, Result, ap, ◌∙◌, arith}
 use Rattle.encoding.specs.declared.instruction.Instruction as encoding
 use Rattle.lexer.specs.Lines.{lines}
 use Rattle.assembler.specs.declared.error.AssemblyError.{AssemblyError}

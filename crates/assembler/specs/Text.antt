@@ -11,7 +11,7 @@ use Rattle.lexer.specs.Lines.{lines, first_line, other_lines}
 use Rattle.assembler.specs.declared.labels.Labels as declared
 use Rattle.assembler.specs.declared.error.AssemblyError.{AssemblyError}
 use Rattle.assembler.specs.declared.error.AssemblyError.TheVariants.{Header, TableTooShort}
-use Rattle.assembler.specs.Labels.{Known, known, none}
+use Rattle.assembler.specs.Labels.{known, none}
 use Rattle.assembler.specs.Scan.{onwards, scanned}
 use Rattle.assembler.specs.Program.{program, checked}
 

@@ -1,5 +1,5 @@
 -- What the calls of a list leave, made one by one. Assumes nothing.
-use Rattle.std.proofs.Common.{◌≡◌, ℕ, suc, ◌+◌, ◌<◌, ◌≤◌, List, [], ◌∷◌, length, get_or, drop, sym, ap, ◌∙◌, arith, drop-cons}
+use Rattle.std.proofs.Common.{◌≡◌, ℕ, suc, ◌+◌, ◌<◌, ◌≤◌, List, length, get_or, drop, sym, ap, ◌∙◌, arith, drop-cons}
 use lib.Seq.{drop-length}
 use Rattle.dossier.specs.Meaning.{Meaning}
 use Rattle.rules.specs.declared.call.Call.{Call}

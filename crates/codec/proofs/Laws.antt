@@ -1,5 +1,5 @@
 -- What is written is read back, and bytes that are readable throughout are the written form of their meaning. Assumes nothing.
-use Rattle.std.proofs.Common.{◌≡◌, ℕ, ◌+◌, ◌*◌, ◌≤◌, Bool, true, cond, eqb, List, [], ◌∷◌, ◌++◌, length, take, drop, Some, None, Ok, Err, Option, sym, refl, ap, ◌∙◌, subst, arith, length-append, eq-eqb}
+use Rattle.std.proofs.Common.{◌≡◌, ℕ, ◌+◌, ◌*◌, Bool, cond, List, [], ◌++◌, length, take, drop, Some, None, Ok, Err, Option, sym, refl, ap, ◌∙◌, arith, length-append, eq-eqb}
 use Rattle.std.proofs.lemmas.List.{append-nil, take_at, drop_at, drop_all, take-append-drop}
 use Rattle.encoding.specs.declared.instruction.Instruction.{Instruction}
 use Rattle.dossier.specs.declared.record.Head.{Head}
@@ -11,7 +11,7 @@ use Rattle.field.specs.Bytes.{Bytes, field_bytes}
 use Rattle.field.specs.Payload.{head_payload, head_parsed, instruction_payload, instruction_parsed, word_payload, word_parsed, line_payload, line_parsed, row_payload, row_parsed}
 use Rattle.field.specs.Forms.{head_form, instruction_form, word_form, line_form, row_form}
 use Rattle.codec.specs.Layout.{words_start, lines_start, rows_start, file_size}
-use Rattle.codec.specs.Held.{head_read, instruction_read, word_read, line_read, row_read, measured, head_of, items, held, meaning_of}
+use Rattle.codec.specs.Held.{head_read, word_read, line_read, row_read, measured, head_of, items, held, meaning_of}
 use Rattle.codec.specs.Written.{head_bytes, instructions_bytes, words_bytes, lines_bytes, rows_bytes, written}
 use Rattle.codec.proofs.PartForm.{bytes_take, read_back, read_only, length_part, part_here, part_next, part_whole}
 use Rattle.codec.proofs.Meant.{measured_some}

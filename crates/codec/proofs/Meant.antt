@@ -1,5 +1,5 @@
 -- The meaning of bytes counts its items and holds numbers that fit. Assumes nothing.
-use Rattle.std.proofs.Common.{◌≡◌, ℕ, ◌+◌, ◌*◌, Bool, true, false, cond, eqb, List, [], ◌∷◌, length, take, drop, Some, None, Option, sym, refl, ap, ◌∙◌, arith, eqb-true}
+use Rattle.std.proofs.Common.{◌≡◌, ℕ, Bool, true, false, cond, eqb, List, length, take, drop, Some, None, Option, sym, refl, ap, ◌∙◌, arith, eqb-true}
 use Rattle.dossier.specs.declared.record.Head.{Head}
 use Rattle.dossier.specs.Numbers.{head_numbers, instruction_numbers, word_numbers, line_numbers, row_numbers}
 use Rattle.dossier.specs.Meaning.{Made}

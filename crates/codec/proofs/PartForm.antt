@@ -1,5 +1,5 @@
 -- A field of any kind of record, and the items of a part. Assumes nothing.
-use Rattle.std.proofs.Common.{◌≡◌, ℕ, zero, suc, ◌+◌, ◌*◌, ◌^◌, ◌<◌, ◌≤◌, Bool, true, false, cond, ◌&&◌, eqb, List, [], ◌∷◌, ◌++◌, length, get_or, take, drop, Some, None, Ok, Err, Option, sym, refl, ap, ◌∙◌, subst, mul-zero, zero-add, mul-suc, arith, length-append, length-drop, length-take}
+use Rattle.std.proofs.Common.{◌≡◌, ℕ, zero, suc, ◌+◌, ◌*◌, ◌<◌, ◌≤◌, Bool, true, false, cond, ◌&&◌, eqb, List, [], ◌∷◌, ◌++◌, length, get_or, take, drop, Some, None, Ok, Err, Option, sym, refl, ap, ◌∙◌, mul-zero, zero-add, mul-suc, arith, length-append, length-drop, length-take}
 use Rattle.std.proofs.lemmas.List.{get_or-take, get_or-drop, append_assoc, take_at, drop_at, drop-drop, take-append-drop}
 use Rattle.dossier.specs.declared.record.Head.{Head}
 use Rattle.dossier.specs.Numbers.{Fit}

@@ -2,7 +2,7 @@
 --   head_of bs          the head, if its field stands first and the file has the length that the head says
 --   items f z n bs      n items, each read by f from z bytes
 --   meaning_of bs       the meaning; layer 1 finds an item unreadable
-use Rattle.std.specs.Prelude.{ℕ, zero, suc, ◌+◌, cond, List, [], ◌∷◌, length, take, drop, Some, None, Ok, Err, Option, ◌==◌}
+use Rattle.std.specs.Prelude.{ℕ, zero, suc, cond, List, [], ◌∷◌, length, take, drop, Some, None, Ok, Err, Option, ◌==◌}
 use Rattle.encoding.specs.declared.instruction.Instruction.{Instruction}
 use Rattle.dossier.specs.declared.record.Head.{Head}
 use Rattle.dossier.specs.declared.record.Line.{Line}

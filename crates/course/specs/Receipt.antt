@@ -6,7 +6,6 @@
 -- Assumes nothing.
 use Rattle.std.specs.Prelude.{ℕ, List, [], ◌∷◌, ◌++◌, codes, decimal}
 use Rattle.dossier.specs.Meaning.{part_number}
-use Rattle.dossier.specs.declared.refusal.Fault.{Fault}
 use Rattle.rules.specs.declared.finding.Finding.{Finding}
 use Rattle.rules.specs.declared.finding.Finding.TheVariants.{Broken, Unreadable}
 use Rattle.rules.specs.declared.call.Outcome.{Outcome}

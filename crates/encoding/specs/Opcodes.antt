@@ -3,9 +3,7 @@
 --   mnemonic_of n  the mnemonic of an opcode, if it has one
 -- Assumes nothing.
 use Rattle.std.specs.Prelude.{ℕ, List, [], ◌∷◌, Some, None, Option, slice_index_or}
-use Rattle.word.specs.declared.operator.Arithmetic.{Arithmetic}
 use Rattle.word.specs.declared.operator.Arithmetic.TheVariants.{And, Or, Xor, Add, Sub, Mull, Umulh, Smulh, Udiv, Umod, Shl, Shr}
-use Rattle.word.specs.declared.operator.Comparison.{Comparison}
 use Rattle.word.specs.declared.operator.Comparison.TheVariants.{Equal, Above, AboveOrEqual, Greater, GreaterOrEqual}
 use Rattle.word.specs.declared.cell.Size.TheVariants.{Byte, Word}
 use Rattle.encoding.specs.declared.operation.Condition.TheVariants.{Always, IfFlag, UnlessFlag}

@@ -7,7 +7,7 @@
 --   field_read t s f bs    what f reads from the payload, if bs is a field of tag t and length s
 --   filled new old         new, where it has the length of old; else old
 --   Form s f p q           payloads p of s bytes, read by q, and records of the numbers f answer each other
-use Rattle.std.specs.Prelude.{◌≡◌, ℕ, zero, suc, ◌+◌, ◌*◌, ◌/◌, ◌%◌, ◌<◌, Bool, cond, ◌&&◌, List, [], ◌∷◌, length, drop, Some, None, Option, ◌==◌, slice_index}
+use Rattle.std.specs.Prelude.{◌≡◌, ℕ, zero, suc, ◌+◌, ◌*◌, ◌/◌, ◌%◌, ◌<◌, cond, ◌&&◌, List, [], ◌∷◌, length, drop, Some, None, Option, ◌==◌, slice_index}
 use Rattle.dossier.specs.Numbers.{Fit}
 
 abbrev pub Bytes : List ℕ → Type 0

@@ -1,11 +1,7 @@
 -- The five kinds of record and their payloads answer each other. Assumes nothing.
-use Rattle.std.specs.Prelude.{◌≡◌, ℕ, ◌+◌, ◌*◌, Bool, List, [], ◌∷◌, length, Some, None, ◌==◌, refl}
+use Rattle.std.specs.Prelude.{◌≡◌, ℕ, ◌*◌, List, length, Some, ◌==◌, refl}
 use Rattle.std.proofs.Common.{sym, ap, subst, ◌∙◌, arith, rules}
 use Rattle.std.specs.List.{flat_map}
-use Rattle.encoding.specs.declared.instruction.Instruction.{Instruction}
-use Rattle.dossier.specs.declared.record.Head.{Head}
-use Rattle.dossier.specs.declared.record.Line.{Line}
-use Rattle.dossier.specs.declared.record.Touch.{Touch}
 use Rattle.dossier.specs.declared.record.Row.{Row}
 use Rattle.dossier.specs.declared.record.Row.TheVariants.{Plain, FromLine, FromStep, Advice, AdviceEnd}
 use Rattle.dossier.specs.Numbers.{Fit, Words, head_numbers, instruction_numbers, word_numbers, line_numbers, row_numbers}

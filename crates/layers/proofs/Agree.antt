@@ -1,15 +1,15 @@
 -- Two dossiers under a common head have lists of equal lengths, so that their pair answers what both answer. Assumes nothing.
-use Rattle.std.proofs.Common.{◌≡◌, ℕ, zero, suc, ◌^◌, ◌<◌, Bool, true, false, cond, ◌&&◌, eqb, List, [], ◌∷◌, length, Some, None, Ok, Err, Option, Result, sym, refl, ap, ◌∙◌, subst, arith}
+use Rattle.std.proofs.Common.{◌≡◌, ℕ, zero, suc, Bool, true, false, cond, List, [], ◌∷◌, length, Some, Ok, Err, Result, sym, refl, ap, ◌∙◌, arith}
 use Rattle.std.specs.List.{slice_get}
 use Rattle.std.proofs.lemmas.Bool.Decides.{nat_tests}
 use Rattle.dossier.specs.declared.record.Head.{Head}
 use Rattle.dossier.specs.declared.refusal.Part.{Part}
 use Rattle.dossier.specs.declared.refusal.Part.TheVariants as part
 use Rattle.dossier.specs.declared.refusal.Refusal.{Refusal}
-use Rattle.dossier.specs.declared.refusal.Refusal.TheVariants.{Past, Unreadable}
-use Rattle.dossier.specs.Numbers.{Fit, same, equal, head_numbers, instruction_numbers, word_numbers, line_numbers, row_numbers}
-use Rattle.dossier.specs.Meaning.{Item, Meaning, Made, Listed, ItemFits, Each, counted, item_answer, head_answer}
-use Rattle.layers.specs.Pair.{agreed, both, under, common_head, paired, common_answer, headed}
+use Rattle.dossier.specs.declared.refusal.Refusal.TheVariants.{Unreadable}
+use Rattle.dossier.specs.Numbers.{Fit, same, head_numbers, instruction_numbers, word_numbers, line_numbers, row_numbers}
+use Rattle.dossier.specs.Meaning.{Item, Meaning, Made, Listed, ItemFits, Each, counted, item_answer}
+use Rattle.layers.specs.Pair.{agreed, both, under, paired, common_answer, headed}
 
 -- a test of two records, on the side of items and on the side of answers
 one : {R : Type 0} (p : Part) (j : ℕ) (a : R) (s : Bool) → cond s (Ok a) (Err (Unreadable (record { part = p; place = j; layer = 4 }))) ≡ item_answer p j (Some (cond s (Ok a) (Err 4)))

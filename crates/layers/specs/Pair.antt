@@ -5,7 +5,6 @@
 --   headed             refusal 1 where there is no common head
 use Rattle.std.specs.Prelude.{ℕ, cond, List, [], ◌∷◌, Ok, Err, Result}
 use Rattle.dossier.specs.declared.record.Head.{Head}
-use Rattle.dossier.specs.declared.refusal.Fault.{Fault}
 use Rattle.dossier.specs.declared.refusal.Part.{Part}
 use Rattle.dossier.specs.declared.refusal.Refusal.{Refusal}
 use Rattle.dossier.specs.declared.refusal.Refusal.TheVariants.{Past, Unreadable}

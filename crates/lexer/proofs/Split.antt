@@ -1,9 +1,6 @@
 -- The lines of a text, one by one. Assumes nothing.
-use Rattle.std.proofs.Common.{◌≡◌, ℕ, zero, suc, ◌+◌, ◌<◌, ◌≤◌, Bool, true, false, cond, not, ◌&&◌, ◌||◌, eqb, List, [], ◌∷◌, length, get_or, take, drop, sym, refl, ap, ◌∙◌, subst, arith, length-drop, rules, true-eqb}
-use Rattle.std.proofs.lemmas.Bool.Decides.{nat_tests}
-use Rattle.lexer.specs.declared.class.Class.TheVariants.{Line}
-use Rattle.lexer.specs.Classes.{belongs, run}
-use Rattle.lexer.specs.Lines.{lines, onto, first_line, past_end, other_lines}
+use Rattle.std.proofs.Common.{◌≡◌, ℕ, ◌<◌, Bool, true, false, eqb, List, [], ◌∷◌, length, get_or, sym, refl, ap, subst, arith, true-eqb}
+use Rattle.lexer.specs.Lines.{lines, first_line, other_lines}
 
 abbrev Next : List ℕ → Type 0
 Next bs = lines bs ≡ first_line bs ∷ lines (other_lines bs)

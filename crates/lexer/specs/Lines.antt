@@ -3,7 +3,7 @@
 --   first_line bs   the first line
 --   other_lines bs  the text of the others
 -- Assumes nothing.
-use Rattle.std.specs.Prelude.{ℕ, Bool, true, false, cond, ◌&&◌, ◌||◌, List, [], ◌∷◌, drop, ◌==◌, slice_index}
+use Rattle.std.specs.Prelude.{ℕ, cond, ◌&&◌, ◌||◌, List, [], ◌∷◌, drop, ◌==◌, slice_index}
 use Rattle.lexer.specs.declared.class.Class.TheVariants.{Line}
 use Rattle.lexer.specs.Classes.{front, past}
 

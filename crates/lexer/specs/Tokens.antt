@@ -7,7 +7,7 @@
 --   seen token      a token by its kind, its text and its place
 --   after_mark c bs  what follows the byte c at the very front of bs
 -- Assumes nothing.
-use Rattle.std.specs.Prelude.{ℕ, ◌-◌, Bool, true, false, cond, ◌&&◌, ◌||◌, List, [], ◌∷◌, length, drop, Some, None, Option, ◌==◌, slice_index}
+use Rattle.std.specs.Prelude.{ℕ, ◌-◌, cond, ◌&&◌, ◌||◌, List, [], length, drop, Some, None, Option, ◌==◌, slice_index}
 use Rattle.std.specs.Borrow.{Bor}
 use Rattle.lexer.specs.declared.class.Class.TheVariants.{Blank, Word}
 use Rattle.lexer.specs.declared.token.Kind.{Kind}

@@ -1,6 +1,5 @@
 -- The effects keep the laws of one step.
-use Rattle.std.proofs.Common.{◌≡◌, ℕ, Bool, true, false, cond, eqb, ltb, ◌≢◌, get_or, set, Some, None, Option, sym, refl, ap, subst, arith, get_or-set_other}
-use Rattle.std.proofs.lemmas.Bool.Decides.{nat_tests}
+use Rattle.std.proofs.Common.{◌≡◌, ℕ, Bool, true, false, cond, eqb, ltb, ◌≢◌, Some, None, Option, sym, refl, ap, subst, arith, get_or-set_other}
 use Rattle.word.specs.declared.cell.Size.{Size}
 use Rattle.word.specs.Cell.{Bytewise}
 use Rattle.word.proofs.Bytes.{bytewise}
@@ -9,11 +8,11 @@ use Rattle.encoding.specs.declared.operation.Operand.{Operand}
 use Rattle.encoding.specs.declared.operation.Operation.{Operation}
 use Rattle.encoding.specs.declared.operation.Operation.TheVariants.{Compute, Not, Compare, Move, MoveIfFlag, Jump, Store, Load, Read, Answer}
 use Rattle.machine.specs.declared.step.Demand.{Demand}
-use Rattle.machine.specs.declared.step.Demand.TheVariants.{Nothing, Cell, Primary, Advice, Halt}
+use Rattle.machine.specs.declared.step.Demand.TheVariants.{Primary}
 use Rattle.machine.specs.declared.cpu.Cpu.{Cpu}
 use Rattle.machine.specs.State.{register_of, value_of, holds, advanced, jumped, written, flagged, passed}
 use Rattle.machine.specs.Effects.{asked, tape_asked, left, received, stepped}
-use Rattle.machine.specs.Laws.{Leaves, Changes, changes, following, Frame}
+use Rattle.machine.specs.Laws.{Leaves, changes, following, Frame}
 
 -- MEMORY
 

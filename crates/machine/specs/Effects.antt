@@ -4,7 +4,7 @@
 --   left o s n     what it leaves in the cell that it touches, which held n
 --   stepped o g s  the state after it, where g is what it asked for
 -- Assumes nothing.
-use Rattle.std.specs.Prelude.{ℕ, Bool, true, false, cond, List, Some, None, Option, ◌==◌, nat_lt, slice_index_or}
+use Rattle.std.specs.Prelude.{ℕ, true, false, cond, List, Some, None, Option, ◌==◌, nat_lt, slice_index_or}
 use Rattle.std.specs.Option.{unwrap_or}
 use Rattle.word.specs.declared.outcome.Outcome.{Outcome}
 use Rattle.word.specs.Arithmetic.{computed, compared, inverted}

@@ -13,7 +13,7 @@ use Rattle.encoding.specs.declared.mnemonic.Mnemonic.TheVariants as M
 use Rattle.lexer.specs.declared.token.Kind.{Kind}
 use Rattle.lexer.specs.declared.token.Kind.TheVariants.{Label, Mnemonic, Register, Integer, Colon, Comma, End, Unknown}
 use Rattle.lexer.specs.declared.token.Word.{Word}
-use Rattle.lexer.specs.Tokens.{Seen, kind_in, text_in, rest_in, place_in, after_mark}
+use Rattle.lexer.specs.Tokens.{kind_in, text_in, rest_in, place_in, after_mark}
 use Rattle.parser.specs.declared.statement.Statement.{Statement}
 use Rattle.parser.specs.declared.statement.Line.{Line}
 use Rattle.mnemonics.specs.Names.{mnemonic_of}

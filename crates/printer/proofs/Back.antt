@@ -1,7 +1,6 @@
 -- A printed program assembles to itself. Assumes nothing.
-use Rattle.std.proofs.Common.{◌≡◌, ℕ, zero, suc, ◌+◌, ◌^◌, ◌<◌, ◌≤◌, Bool, true, false, cond, not, ◌&&◌, ◌||◌, eqb, ltb, List, [], ◌∷◌, ◌++◌, map, length, get_or, drop, is_some, Some, None, Ok, Err, Option, Result, unwrap_or, sym, refl, ap, ◌∙◌, append_assoc, add-one, arith}
+use Rattle.std.proofs.Common.{◌≡◌, ℕ, zero, suc, ◌+◌, ◌^◌, ◌<◌, ◌≤◌, true, false, cond, eqb, ltb, List, [], ◌∷◌, ◌++◌, map, length, get_or, drop, is_some, Some, None, Ok, Err, Option, Result, unwrap_or, sym, refl, ap, ◌∙◌, append_assoc, add-one, arith}
 use Rattle.std.proofs.lemmas.Bool.Decides.{nat_tests}
-use Rattle.encoding.specs.declared.operation.Operation.{Operation}
 use Rattle.encoding.specs.declared.instruction.Instruction as encoding
 use Rattle.encoding.specs.Encoding.{decoded, encoded, meant}
 use Rattle.encoding.specs.Formed.{well_formed}
@@ -9,22 +8,20 @@ use Rattle.encoding.proofs.Inverse.{decoded_only}
 use Rattle.encoding.proofs.Formed.{formed_is}
 use Rattle.lexer.specs.declared.class.Class.TheVariants.{Line}
 use Rattle.lexer.specs.Classes.{belongs}
-use Rattle.lexer.specs.Lines.{lines, onto, first_line, past_end, other_lines}
-use Rattle.parser.specs.Statements.{LineView}
+use Rattle.lexer.specs.Lines.{lines, onto, past_end, other_lines}
 use Rattle.assembler.specs.declared.error.AssemblyError.{AssemblyError}
-use Rattle.assembler.specs.declared.resolve.Given.{Given}
 use Rattle.assembler.specs.declared.resolve.Given.TheVariants.{Instruction}
-use Rattle.assembler.specs.Labels.{Known, none}
+use Rattle.assembler.specs.Labels.{Known}
 use Rattle.assembler.specs.Scan.{onwards, stepped_by, stepped, scanned}
 use Rattle.assembler.specs.Resolve.{given, read_gives, line_gives}
 use Rattle.assembler.specs.Program.{listed, program, entries, checked}
-use Rattle.assembler.specs.Text.{header, body, assembled}
+use Rattle.assembler.specs.Text.{header, body}
 use Rattle.assembler.specs.declared.error.AssemblyError.TheVariants.{Header}
 use Rattle.std.specs.Str.{bytes_eq}
-use Rattle.printer.specs.Listing.{operation_text, line_text, listing, printed}
+use Rattle.printer.specs.Listing.{operation_text, line_text, listing}
 use Rattle.printer.specs.Back.{Printable, PrintedAssembles}
 use Rattle.printer.proofs.Fronts.{every, and_left, and_right, front_append, past_append}
-use Rattle.printer.proofs.Lines.{statement_of, line_of_lem, encoded_of, plain_of}
+use Rattle.printer.proofs.Lines.{line_of_lem, encoded_of, plain_of}
 
 -- ONE INSTRUCTION
 

@@ -1,5 +1,5 @@
 -- Registers and integers as they are printed, and what they are read as. Assumes nothing.
-use Rattle.std.proofs.Common.{◌≡◌, ℕ, ◌+◌, ◌-◌, ◌/◌, ◌%◌, ◌^◌, ◌<◌, ◌≤◌, Bool, true, false, cond, ◌&&◌, eqb, leb, List, [], ◌∷◌, ◌++◌, length, get_or, Some, None, decimal, sym, refl, ap, ◌∙◌, subst, inl, inr, arith}
+use Rattle.std.proofs.Common.{◌≡◌, ℕ, ◌+◌, ◌-◌, ◌/◌, ◌%◌, ◌^◌, ◌<◌, ◌≤◌, Bool, true, cond, List, [], ◌∷◌, ◌++◌, length, Some, None, decimal, refl, ap, ◌∙◌, inl, inr, arith}
 use Rattle.std.specs.Char.{is_ascii_digit}
 use Rattle.std.specs.Str.{all_ascii_digits}
 use Rattle.std.proofs.lemmas.Fmt.{decimal_digit, decimal_step, decimal_nonempty, digits_decimal, digits_value-decimal, length-decimal-le}
@@ -9,7 +9,7 @@ use Rattle.lexer.specs.declared.class.Class.TheVariants.{Blank, Word, Digit, Lin
 use Rattle.lexer.specs.declared.token.Kind.TheVariants.{Register, Integer}
 use Rattle.lexer.specs.Classes.{between, belongs, past}
 use Rattle.lexer.specs.Tokens.{kind_of, after_mark}
-use Rattle.parser.specs.Numbers.{register_of, written, numeral, digits_of, signed, integer_of}
+use Rattle.parser.specs.Numbers.{register_of, written, numeral, signed, integer_of}
 use Rattle.parser.proofs.Digits.{own}
 use Rattle.printer.proofs.Fronts.{every, stopped, and_left, and_right, past_append, nil_right}
 

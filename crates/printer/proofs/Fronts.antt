@@ -1,7 +1,7 @@
 -- A front of one class, written before a text that starts otherwise. Assumes nothing.
 use Rattle.std.proofs.Common.{◌≡◌, ℕ, suc, Bool, true, false, not, ◌&&◌, eqb, List, [], ◌∷◌, ◌++◌, length, get_or, take, drop, sym, refl, ap, arith}
 use Rattle.lexer.specs.declared.class.Class.{Class}
-use Rattle.lexer.specs.declared.class.Class.TheVariants.{Blank, Line}
+use Rattle.lexer.specs.declared.class.Class.TheVariants.{Blank}
 use Rattle.lexer.specs.Classes.{belongs, run, front, past}
 use Rattle.lexer.specs.Tokens.{start_of, kind_of}
 use Rattle.std.proofs.lemmas.Bool.Decides.{nat_tests}

@@ -1,5 +1,5 @@
 -- A printed line is read as its instruction. Assumes nothing.
-use Rattle.std.proofs.Common.{◌≡◌, ℕ, ◌^◌, ◌<◌, Bool, true, false, cond, ◌&&◌, ltb, List, [], ◌∷◌, ◌++◌, length, Some, None, decimal, Option, sym, refl, ap, ◌∙◌, arith}
+use Rattle.std.proofs.Common.{◌≡◌, ℕ, ◌^◌, ◌<◌, true, cond, ◌&&◌, ltb, List, [], ◌∷◌, ◌++◌, length, Some, None, Option, refl, ap, ◌∙◌, arith}
 use Rattle.std.proofs.lemmas.Bool.Decides.{nat_tests}
 use Rattle.std.specs.Option.{option_map}
 use Rattle.encoding.specs.declared.mnemonic.Mnemonic.{Mnemonic}
@@ -14,8 +14,8 @@ use Rattle.encoding.proofs.Options.{if_some}
 use Rattle.lexer.specs.declared.class.Class.TheVariants.{Line}
 use Rattle.lexer.specs.Classes.{belongs}
 use Rattle.mnemonics.specs.Names.{name_of}
-use Rattle.parser.specs.Operands.{and_then, ended, operand_in, register_in, comma_in}
-use Rattle.parser.specs.Statements.{StatementView, stated, three_in, compare_in, two_in, store_in, one_in, operands_in, whole, line, line_in}
+use Rattle.parser.specs.Operands.{and_then, ended}
+use Rattle.parser.specs.Statements.{StatementView, stated, three_in, compare_in, two_in, store_in, one_in, operands_in, line, line_in}
 use Rattle.assembler.specs.Resolve.{settled, encoded_by}
 use Rattle.printer.specs.Listing.{register_text, operand_text, comma, three_text, two_text, store_text, one_text, operation_text}
 use Rattle.printer.proofs.Fronts.{every, and_left, and_right, every_append}

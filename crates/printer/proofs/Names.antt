@@ -11,11 +11,11 @@ use Rattle.encoding.specs.declared.mnemonic.Mnemonic.TheVariants.{Compute, Not, 
 use Rattle.lexer.specs.declared.class.Class.TheVariants.{Blank, Word, Line}
 use Rattle.lexer.specs.declared.token.Kind.{Kind}
 use Rattle.lexer.specs.declared.token.Kind.TheVariants.{Mnemonic}
-use Rattle.lexer.specs.Classes.{belongs, front, past}
+use Rattle.lexer.specs.Classes.{belongs, past}
 use Rattle.lexer.specs.Tokens.{start_of, kind_of, text_of, rest_of}
 use Rattle.mnemonics.specs.Names.{name_of, mnemonic_of}
 use Rattle.parser.specs.Operands.{and_then}
-use Rattle.parser.specs.Statements.{StatementView, LineView, whole, statement_from, line_from, line, line_in}
+use Rattle.parser.specs.Statements.{LineView, whole, statement_from, line_from, line, line_in}
 use Rattle.printer.proofs.Fronts.{every, stopped, front_append, past_append, kind_cons}
 
 kind_of_lem : (w rest : List ℕ) → 2 ≤ length w → start_of (get_or w 0 0) (get_or w 1 0) ≡ Mnemonic → kind_of (w ++ rest) ≡ Mnemonic

@@ -2,7 +2,7 @@
 --   Printable p       the instructions of p are well formed, and their numbers are words
 --   PrintedAssembles  what is printed of at most 4,096 such instructions assembles to just these
 -- Assumes nothing.
-use Rattle.std.specs.Prelude.{◌≡◌, ℕ, ◌^◌, ◌<◌, ◌≤◌, true, List, [], ◌∷◌, length, Ok}
+use Rattle.std.specs.Prelude.{◌≡◌, ◌^◌, ◌<◌, ◌≤◌, true, List, [], ◌∷◌, length, Ok}
 use Rattle.encoding.specs.declared.instruction.Instruction.{Instruction}
 use Rattle.encoding.specs.Formed.{well_formed}
 use Rattle.assembler.specs.Text.{assembled}

@@ -1,27 +1,24 @@
 -- The first law: accepted exactly when every unit was taken and the dossier is genuine.
-use Rattle.std.proofs.Common.{◌≡◌, ℕ, zero, suc, ◌+◌, ◌-◌, ◌<◌, ◌≤◌, Bool, true, false, cond, eqb, ◌⊎◌, List, [], ◌∷◌, map, length, Some, None, Ok, Err, Option, Result, sym, refl, ap, ◌∙◌, subst, inl, inr, arith}
+use Rattle.std.proofs.Common.{◌≡◌, ℕ, ◌+◌, ◌≤◌, Bool, true, false, cond, eqb, List, [], ◌∷◌, map, length, Some, None, Ok, Err, Option, sym, refl, ap, ◌∙◌, subst, arith}
 use lib.ListN.{length-map}
-use Rattle.std.proofs.lemmas.Bool.{cases_Bool}
 use Rattle.std.proofs.lemmas.Bool.Decides.{nat_tests}
 use Rattle.dossier.specs.declared.record.Head.{Head}
 use Rattle.dossier.specs.declared.record.Row.TheVariants.{Plain}
 use Rattle.dossier.specs.declared.refusal.Part.TheVariants as part
 use Rattle.dossier.specs.Numbers.{Fit, row_numbers}
-use Rattle.dossier.specs.Meaning.{Item, Meaning, Made, Readable, IsRecord, ItemFits, Each, counted, item_answer}
+use Rattle.dossier.specs.Meaning.{Item, Meaning, Made, IsRecord, ItemFits, Each, counted, item_answer}
 use Rattle.tinyram.proofs.Run.{program_complete}
 use Rattle.tinyram.proofs.Kept.{program_decided}
-use Rattle.rules.specs.declared.finding.Rule.{Rule}
 use Rattle.rules.specs.declared.finding.Rule.TheVariants as rule
 use Rattle.rules.specs.declared.finding.Finding.{Finding}
 use Rattle.rules.specs.declared.progress.Progress.{Progress}
 use Rattle.rules.specs.declared.call.Call.{Call}
 use Rattle.rules.specs.declared.call.Call.TheVariants.{Advance}
 use Rattle.rules.specs.declared.call.Advanced.TheVariants as advanced-case
-use Rattle.rules.specs.declared.call.Outcome.{Outcome}
 use Rattle.rules.specs.declared.call.Outcome.TheVariants as outcome
 use Rattle.rules.specs.Units.{units}
-use Rattle.rules.specs.Course.{in_limits, stopped, ready, no_head, begun_by, begun, left, told, closing_by, closing, after_from, after, amount, taken_from, taken_by, advance_answer}
-use Rattle.rules.specs.Laws.{recordOr, program, primary, lines, rows, every_unit, Limits, Within, HeadWithin, Genuine, Closes, Acceptance, Advancing}
+use Rattle.rules.specs.Course.{in_limits, stopped, no_head, begun_by, begun, left, told, closing_by, closing, after_from, after, amount, taken_from, taken_by, advance_answer}
+use Rattle.rules.specs.Laws.{recordOr, program, primary, lines, rows, every_unit, Within, HeadWithin, Genuine, Closes, Acceptance, Advancing}
 use Rattle.run_log.specs.Words.{Exactly}
 use Rattle.rules.proofs.Whole.{whole, is_whole}
 use Rattle.rules.proofs.Taking.{no_none, run, reached}

@@ -1,16 +1,13 @@
 -- A line passes its check exactly if it keeps the rules of lines.
-use Rattle.std.proofs.Common.{◌≡◌, ℕ, zero, suc, ◌-◌, ◌%◌, ◌<◌, ◌≤◌, Bool, true, false, ◌&&◌, eqb, ltb, leb, List, length, Some, None, Ok, Err, Option, sym, refl, ap, ◌∙◌, subst, arith}
+use Rattle.std.proofs.Common.{◌≡◌, ℕ, zero, suc, ◌%◌, ◌≤◌, true, ◌&&◌, eqb, List, length, Some, None, Ok, Option, refl, arith}
 use Rattle.std.proofs.lemmas.Bool.Decides.{nat_tests}
 use Rattle.encoding.specs.declared.instruction.Instruction.{Instruction}
 use Rattle.dossier.specs.declared.record.Head.{Head}
 use Rattle.dossier.specs.declared.record.Line.{Line}
 use Rattle.dossier.specs.declared.record.Row.{Row}
-use Rattle.dossier.specs.Meaning.{row_answer}
-use Rattle.run_log.specs.Rules.{row_at, line_at, kind_of, touch_of, from_line, LineOrder, LineStep}
+use Rattle.run_log.specs.Rules.{row_at, line_at, from_line, LineOrder, LineStep}
 use Rattle.rules.specs.declared.finding.Rule.TheVariants as rule
-use Rattle.rules.specs.declared.progress.Unit as progress
 use Rattle.rules.specs.declared.progress.Unit.TheVariants as unit
-use Rattle.rules.specs.Units.{then, unless, needed}
 use Rattle.rules.specs.Checks.{above, within, checked_line}
 use Rattle.rules.proofs.Goes.{past_test, with_test, found, finds}
 use Rattle.rules.proofs.Whole.{whole, row_read}

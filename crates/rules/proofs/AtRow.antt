@@ -1,33 +1,29 @@
 -- A row passes its check exactly if it keeps the rules of its step and of its links; then the machine goes on as in the run.
-use Rattle.std.proofs.Common.{◌≡◌, ℕ, zero, suc, ◌+◌, ◌-◌, ◌<◌, ◌≤◌, Bool, true, false, cond, ◌&&◌, eqb, ltb, leb, ◌⊎◌, List, length, get_or, Some, None, Ok, Err, Option, Result, sym, refl, ap, ◌∙◌, subst, inl, inr, add-one, arith}
+use Rattle.std.proofs.Common.{◌≡◌, ℕ, suc, ◌+◌, ◌<◌, ◌≤◌, Bool, true, false, ◌&&◌, eqb, ltb, leb, ◌⊎◌, List, length, Ok, sym, refl, inl, inr, arith}
 use Rattle.std.proofs.lemmas.List.{get_or_past}
 use Rattle.std.proofs.lemmas.Bool.{cases_lt, cases_eq}
 use Rattle.std.proofs.lemmas.Bool.Decides.{nat_tests}
 use Rattle.encoding.specs.declared.instruction.Instruction.{Instruction}
 use Rattle.encoding.specs.declared.operation.Operation.{Operation}
-use Rattle.encoding.specs.Encoding.{meant}
 use Rattle.machine.specs.declared.cpu.Cpu.{Cpu}
 use Rattle.machine.specs.declared.step.Demand.{Demand}
 use Rattle.machine.specs.declared.step.Demand.TheVariants as demand
 use Rattle.machine.specs.Effects.{answer_one, fetched, asked, left, stepped}
 use Rattle.dossier.specs.declared.record.Head.{Head}
 use Rattle.dossier.specs.declared.record.Line.{Line}
-use Rattle.dossier.specs.declared.record.Touch.{Touch}
 use Rattle.dossier.specs.declared.record.Row.{Row}
 use Rattle.dossier.specs.declared.record.Row.TheVariants.{Plain, FromLine, FromStep, Advice, AdviceEnd}
 use Rattle.dossier.specs.declared.refusal.Part.TheVariants as part
 use Rattle.run_log.specs.Log.{zeroed}
-use Rattle.run_log.specs.Rules.{row_at, line_at, kind_of, touch_of, leads_to, from_step, LineOrigin, StepOrigin, LedOn, NextLink, RowLinks}
+use Rattle.run_log.specs.Rules.{row_at, line_at, touch_of, leads_to, from_step, LineOrigin, StepOrigin, LedOn, NextLink, RowLinks}
 use Rattle.run_log.specs.Run.{input_of, step_finding}
 use Rattle.run_log.proofs.Rows.{row_inside}
-use Rattle.tinyram.specs.Program.{outside, word_at, supplied}
+use Rattle.tinyram.specs.Program.{outside, supplied}
 use Rattle.rules.specs.declared.finding.Rule.TheVariants as rule
-use Rattle.rules.specs.declared.finding.Finding.{Finding}
 use Rattle.rules.specs.declared.progress.Unit as progress
 use Rattle.rules.specs.declared.progress.Unit.TheVariants as unit
-use Rattle.rules.specs.Units.{then, unless, needed}
 use Rattle.rules.specs.Checks.{operation_at, checked_step, opens_touch, checked_origin, checked_next, got_at, checked_row}
-use Rattle.rules.proofs.Goes.{went, goes, past_test, with_test, found, finds, same_ok, no_ok}
+use Rattle.rules.proofs.Goes.{went, goes, past_test, with_test, found, finds, same_ok}
 use Rattle.rules.proofs.Whole.{whole, answer_at, row_read}
 use Rattle.rules.proofs.AtStep.{step_sound, step_complete}
 

@@ -1,5 +1,5 @@
 -- A unit that is taken in its proper stage passes exactly if it is good, and leaves the proper stage for the next.
-use Rattle.std.proofs.Common.{◌≡◌, ℕ, zero, suc, ◌<◌, ◌≤◌, Bool, true, false, ◌||◌, eqb, ◌⊎◌, List, length, get_or, Some, None, Ok, Err, Result, sym, refl, ap, ◌∙◌, subst, inl, inr, arith}
+use Rattle.std.proofs.Common.{◌≡◌, ℕ, zero, suc, ◌<◌, ◌≤◌, Bool, true, false, ◌||◌, eqb, List, length, get_or, Ok, sym, refl, ap, ◌∙◌, subst, inl, inr, arith}
 use Rattle.std.proofs.lemmas.Bool.Decides.{nat_tests}
 use Rattle.encoding.specs.declared.instruction.Instruction.{Instruction}
 use Rattle.encoding.specs.Formed.{well_formed}
@@ -17,7 +17,7 @@ use Rattle.rules.specs.declared.progress.Unit as progress
 use Rattle.rules.specs.declared.progress.Unit.TheVariants as unit
 use Rattle.rules.specs.declared.progress.Stage.{Stage}
 use Rattle.rules.specs.declared.progress.Stage.TheVariants.{Instructions, Words, Lines, Rows}
-use Rattle.rules.specs.Units.{units, unit_at, place_of, opened, entered}
+use Rattle.rules.specs.Units.{unit_at, place_of, entered}
 use Rattle.rules.specs.Checks.{checked_instruction, checked_line, checked_row, checked}
 use Rattle.rules.proofs.Goes.{went, goes, held, holds, same_ok}
 use Rattle.rules.proofs.Whole.{whole, answer_at}

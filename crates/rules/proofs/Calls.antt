@@ -1,5 +1,5 @@
 -- Lists of calls: where they lead, and what their answers add up to.
-use Rattle.std.proofs.Common.{◌≡◌, ℕ, zero, suc, ◌+◌, ◌-◌, ◌<◌, ◌≤◌, Bool, true, false, cond, eqb, ltb, ◌⊎◌, List, [], ◌∷◌, Some, None, Ok, Err, Option, Result, sym, refl, ap, ◌∙◌, subst, inl, inr, add-zero, zero-add, arith}
+use Rattle.std.proofs.Common.{◌≡◌, ℕ, ◌+◌, ◌-◌, ◌≤◌, true, false, eqb, ltb, ◌⊎◌, List, [], ◌∷◌, Some, None, Ok, Option, sym, refl, ap, ◌∙◌, inl, inr, add-zero, arith}
 use Rattle.std.proofs.lemmas.Bool.{cases_eq, cases_lt}
 use Rattle.std.proofs.lemmas.Bool.Decides.{nat_tests}
 use Rattle.dossier.specs.declared.record.Head.{Head}
@@ -8,13 +8,11 @@ use Rattle.rules.specs.declared.finding.Finding.{Finding}
 use Rattle.rules.specs.declared.progress.Progress.{Progress}
 use Rattle.rules.specs.declared.call.Call.{Call}
 use Rattle.rules.specs.declared.call.Call.TheVariants.{Advance, Ask}
-use Rattle.rules.specs.declared.call.Advanced.{Advanced}
-use Rattle.rules.specs.declared.call.Advanced.TheVariants as advanced-case
 use Rattle.rules.specs.declared.call.Refused.{Refused}
 use Rattle.rules.specs.declared.call.Refused.TheVariants as refused-case
 use Rattle.rules.specs.Units.{units}
-use Rattle.rules.specs.Course.{taking, left, refused, refused_by, told, advanced_by, answered_by, advanced, advance_answer, called, after_from, amount, amount_of, taken_from}
-use Rattle.rules.proofs.Taking.{no_none, taking_add, run, Reached, reached}
+use Rattle.rules.specs.Course.{left, refused, refused_by, told, advanced_by, answered_by, advanced, advance_answer, called, after_from, amount, taken_from}
+use Rattle.rules.proofs.Taking.{no_none, taking_add, run, reached}
 
 pub either_way : {X : Type 0} (o : Option X) → (o ≡ None) ⊎ ((x : X) × (o ≡ Some x))
 either_way None = inl refl

@@ -1,6 +1,6 @@
 -- The second and the third law: some dossier is accepted exactly when some tape makes the program accept,
 -- and accepted dossiers that are alike are equal.
-use Rattle.std.proofs.Common.{◌≡◌, ℕ, ◌+◌, ◌^◌, ◌<◌, ◌≤◌, List, [], ◌∷◌, map, length, Ok, Err, sym, refl, ap, ◌∙◌, subst, arith}
+use Rattle.std.proofs.Common.{◌≡◌, ℕ, ◌≤◌, List, [], ◌∷◌, map, length, Ok, sym, refl, ap, ◌∙◌, subst, arith}
 use lib.ListN.{length-map}
 use Rattle.encoding.specs.declared.instruction.Instruction.{Instruction}
 use Rattle.dossier.specs.declared.record.Head.{Head}
@@ -8,15 +8,13 @@ use Rattle.dossier.specs.declared.record.Line.{Line}
 use Rattle.dossier.specs.declared.record.Row.{Row}
 use Rattle.dossier.specs.declared.record.Row.TheVariants.{Plain}
 use Rattle.dossier.specs.Numbers.{Words, Fit, instruction_numbers, word_numbers, line_numbers, row_numbers}
-use Rattle.dossier.specs.Meaning.{Item, Meaning, Made, Readable, IsRecord, ItemFits, Each, counted}
-use Rattle.run_log.specs.Words.{Exactly}
+use Rattle.dossier.specs.Meaning.{Item, Meaning, Made, IsRecord, ItemFits, Each, counted}
 use Rattle.tinyram.specs.Program.{AcceptsIn, LogsRun, rows_of, lines_of}
 use Rattle.tinyram.proofs.Run.{program_logged, program_unique}
 use Rattle.tinyram.proofs.Kept.{program_words, program_counts}
-use Rattle.rules.specs.declared.call.Call.{Call}
 use Rattle.rules.specs.declared.call.Call.TheVariants.{Advance}
 use Rattle.rules.specs.Course.{amount, taken_by}
-use Rattle.rules.specs.Laws.{recordOr, program, primary, lines, rows, bound, every_unit, Formed, Limits, Within, HeadWithin, Genuine, Accepted, Of, Existence, Alike, Uniqueness}
+use Rattle.rules.specs.Laws.{recordOr, program, primary, lines, rows, bound, every_unit, Formed, Limits, Within, HeadWithin, Genuine, Accepted, Of, Existence, Uniqueness}
 use Rattle.rules.proofs.Whole.{whole, all_ok, Headed, headed}
 use Rattle.rules.proofs.Acceptance.{acceptance, advancing}
 

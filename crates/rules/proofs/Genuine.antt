@@ -1,5 +1,5 @@
 -- A dossier whose units all pass is genuine, and every unit of a genuine dossier passes.
-use Rattle.std.proofs.Common.{◌≡◌, ℕ, zero, suc, ◌+◌, ◌<◌, ◌≤◌, Bool, true, false, List, [], ◌∷◌, map, length, get_or, Some, None, Ok, Err, Result, sym, refl, ap, ◌∙◌, subst, arith}
+use Rattle.std.proofs.Common.{◌≡◌, ℕ, zero, suc, ◌+◌, ◌<◌, ◌≤◌, true, List, [], ◌∷◌, length, Some, None, Ok, Err, sym, refl, ap, ◌∙◌, subst, arith}
 use Rattle.std.specs.List.{slice_get}
 use Rattle.encoding.specs.declared.instruction.Instruction.{Instruction}
 use Rattle.encoding.specs.Formed.{well_formed}
@@ -8,28 +8,25 @@ use Rattle.dossier.specs.declared.record.Head.{Head}
 use Rattle.dossier.specs.declared.record.Line.{Line}
 use Rattle.dossier.specs.declared.record.Row.{Row}
 use Rattle.dossier.specs.declared.refusal.Part.{Part}
-use Rattle.dossier.specs.Numbers.{Fit, row_numbers}
-use Rattle.dossier.specs.Meaning.{Item, Meaning, Made, Readable, IsRecord, ItemFits, Each, item_answer, instruction_answer, word_answer, line_answer, row_answer}
+use Rattle.dossier.specs.Meaning.{Item, Meaning, Readable, IsRecord, Each, item_answer, instruction_answer, word_answer, line_answer, row_answer}
 use Rattle.run_log.specs.Log.{zeroed}
 use Rattle.run_log.specs.Rules.{row_at, LineOrder, LineStep, RowLinks}
 use Rattle.run_log.specs.Run.{state_at, ended_by, step_finding}
 use Rattle.run_log.proofs.Tests.{step_row}
-use Rattle.tinyram.specs.Program.{tinyram, outside, Keeps, LogsRun}
-use Rattle.tinyram.proofs.Run.{program_complete}
+use Rattle.tinyram.specs.Program.{tinyram, Keeps}
 use Rattle.tinyram.proofs.Numbers.{each_at, each_from}
 use Rattle.rules.specs.declared.progress.Unit as progress
 use Rattle.rules.specs.declared.progress.Unit.TheVariants as unit
 use Rattle.rules.specs.declared.progress.Stage.{Stage}
 use Rattle.rules.specs.Units.{units, unit_at, entered, needed}
 use Rattle.rules.specs.Checks.{item_at, judged, checked}
-use Rattle.rules.specs.Course.{ready, taking, moved}
-use Rattle.rules.specs.Laws.{recordOr, program, primary, lines, rows, Formed}
+use Rattle.rules.specs.Laws.{Formed}
 use Rattle.rules.proofs.Goes.{went, was_there, no_ok}
-use Rattle.rules.proofs.Whole.{whole, is_whole}
+use Rattle.rules.proofs.Whole.{whole}
 use Rattle.rules.proofs.Places.{following, at_instruction, at_word, at_line, at_row, by_part}
 use Rattle.rules.proofs.AtRow.{Fine}
 use Rattle.rules.proofs.AtUnit.{proper, Good, Inside, unit_sound, unit_complete, next_proper, start_proper}
-use Rattle.rules.proofs.Taking.{run, Passed, all_passed, passed, goes_on}
+use Rattle.rules.proofs.Taking.{run, all_passed, passed, goes_on}
 
 -- READABLE THROUGHOUT
 

@@ -1,5 +1,5 @@
 -- How checks go on: what it tells that one came to an `Ok`.
-use Rattle.std.proofs.Common.{◌≡◌, ℕ, Bool, true, false, cond, ◌&&◌, Ok, Err, Result, sym, refl, subst, arith}
+use Rattle.std.proofs.Common.{◌≡◌, ℕ, Bool, true, false, ◌&&◌, Ok, Err, Result, sym, refl, subst, arith}
 use Rattle.dossier.specs.declared.refusal.Refusal.{Refusal}
 use Rattle.rules.specs.declared.finding.Rule.{Rule}
 use Rattle.rules.specs.declared.finding.Finding.{Finding}

@@ -1,5 +1,5 @@
 -- Units that are taken one after the other: what it tells that nothing was found.
-use Rattle.std.proofs.Common.{◌≡◌, ℕ, zero, suc, ◌+◌, ◌<◌, ◌≤◌, ◌⊎◌, Some, None, Ok, Err, Option, Result, sym, refl, ap, ◌∙◌, subst, inl, inr, add-zero, add-suc, arith}
+use Rattle.std.proofs.Common.{◌≡◌, ℕ, zero, suc, ◌+◌, ◌<◌, Some, None, Ok, Err, Option, Result, sym, refl, ap, ◌∙◌, subst, inl, inr, add-zero, add-suc, arith}
 use Rattle.std.proofs.lemmas.Bool.{cases_eq}
 use Rattle.dossier.specs.declared.record.Head.{Head}
 use Rattle.dossier.specs.Meaning.{Meaning}
@@ -8,7 +8,7 @@ use Rattle.rules.specs.declared.progress.Stage.{Stage}
 use Rattle.rules.specs.declared.progress.Progress.{Progress}
 use Rattle.rules.specs.Units.{units, unit_at, entered}
 use Rattle.rules.specs.Checks.{checked}
-use Rattle.rules.specs.Course.{ready, moved, took, onward, taking, next_unit}
+use Rattle.rules.specs.Course.{ready, moved, took, onward, taking}
 
 pub no_none : {X : Type 0} {P : Type 0} (x : X) → Some x ≡ None → P
 no_none x e = let z : ◌≡◌ {A = ℕ} 0 1 = cc in absurd (omega arith)

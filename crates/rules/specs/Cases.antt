@@ -1,7 +1,7 @@
 -- Worked cases over the definitions: single steps, the checking of the sample, and that of the sample with one number changed.
 --   sample rows lines   the sample's program and bound, with these rows and lines, all readable
 -- Assumes nothing.
-use Rattle.std.specs.Prelude.{◌≡◌, ℕ, List, [], ◌∷◌, map, length, Ok, Err}
+use Rattle.std.specs.Prelude.{◌≡◌, List, [], ◌∷◌, map, length, Ok, Err}
 use Rattle.machine.specs.Marked as steps
 use Rattle.dossier.specs.declared.record.Line.{Line}
 use Rattle.dossier.specs.declared.record.Row.{Row}

@@ -3,7 +3,7 @@
 --   checkedInstruction, checkedLine, checkedRow   the checks of three kinds of unit; a primary word has no rule
 --   checked m h w s                               the check of unit w in stage s: the stage after it, or the finding
 -- Assumes nothing.
-use Rattle.std.specs.Prelude.{ℕ, ◌+◌, ◌-◌, ◌%◌, Bool, true, false, cond, not, ◌&&◌, ◌||◌, Some, None, Ok, Err, Option, Result, ◌==◌, nat_le, nat_lt}
+use Rattle.std.specs.Prelude.{ℕ, ◌+◌, ◌-◌, ◌%◌, Bool, true, cond, not, ◌&&◌, ◌||◌, Some, None, Ok, Option, Result, ◌==◌, nat_le, nat_lt}
 use Rattle.encoding.specs.declared.instruction.Instruction.{Instruction}
 use Rattle.encoding.specs.declared.operation.Operation.{Operation}
 use Rattle.encoding.specs.declared.operation.Operation.TheVariants.{Answer}

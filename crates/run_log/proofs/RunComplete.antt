@@ -4,7 +4,7 @@ use Rattle.std.proofs.Common.{◌≡◌, ℕ, zero, suc, ◌%◌, ◌<◌, ◌�
 use Rattle.std.proofs.lemmas.Bool.{cases_lt, cases_order, eqb-true, both_ways}
 use Rattle.dossier.specs.declared.record.Row.{Row}
 use Rattle.dossier.specs.declared.record.Line.{Line}
-use Rattle.run_log.specs.Log.{Event, event_at, hits, Aligned, memory, log_lines, log_rows, row_of}
+use Rattle.run_log.specs.Log.{Event, event_at, hits, Aligned, log_lines, log_rows, row_of}
 use Rattle.run_log.specs.Rules.{row_at, kind_of, Linked}
 use Rattle.run_log.specs.Run.{Demand, alone, advice, access, answer, Machine, Fourths, Config, heard, tail, shown, unread, asked, after, shown_at, trace, Accepts, Logs}
 use Rattle.run_log.specs.Run.{Hears, advice_of, RowFits, Fits, RunComplete, RunUnique, RunLogged}

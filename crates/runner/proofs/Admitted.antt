@@ -1,12 +1,11 @@
 -- What is known of a run that is not refused.
 -- Assumes nothing.
-use Rattle.std.proofs.Common.{◌≡◌, ℕ, suc, ◌+◌, ◌<◌, ◌≤◌, Bool, true, false, cond, ◌&&◌, leb, List, [], ◌∷◌, length, get_or, drop, Some, None, Option, sym, refl, ap, ◌∙◌, arith, drop-cons}
+use Rattle.std.proofs.Common.{◌≡◌, ℕ, suc, ◌+◌, ◌<◌, ◌≤◌, Bool, true, false, cond, List, [], ◌∷◌, length, get_or, drop, Some, None, Option, sym, refl, ap, ◌∙◌, arith, drop-cons}
 use Rattle.std.proofs.lemmas.List.{drop_all}
 use Rattle.std.proofs.lemmas.Bool.Decides.{nat_tests}
 use Rattle.encoding.specs.declared.instruction.Instruction.{Instruction}
 use Rattle.encoding.specs.Formed.{well_formed}
 use Rattle.runner.specs.declared.refusal.Limit.{Limit}
-use Rattle.runner.specs.declared.refusal.RunRefusal.{RunRefusal}
 use Rattle.runner.specs.Refused.{limit_broken, first_ill_formed, room_wanted, form_refused, limit_refused, refused}
 
 pub record Within (l n b : ℕ) : Type 0 where

@@ -1,8 +1,7 @@
 -- How the run ends, step by step.
 -- Assumes nothing.
-use Rattle.std.proofs.Common.{◌≡◌, ℕ, suc, ◌+◌, ◌-◌, ◌<◌, ◌≤◌, List, Some, None, Option, sym, refl, ap, ◌∙◌, arith}
+use Rattle.std.proofs.Common.{◌≡◌, ℕ, suc, ◌+◌, ◌-◌, ◌<◌, List, Some, None, sym, ap, ◌∙◌, arith}
 use Rattle.encoding.specs.declared.instruction.Instruction.{Instruction}
-use Rattle.runner.specs.declared.ending.Ending.{Ending}
 use Rattle.runner.specs.declared.ending.Ending.TheVariants.{Answered, OutOfSteps}
 use Rattle.runner.specs.Ending.{ended_by, answer_at, end_from, ending}
 

@@ -1,22 +1,21 @@
 -- The filled tables are the log.
 -- Assumes nothing.
-use Rattle.std.proofs.Common.{◌≡◌, ℕ, zero, suc, ◌+◌, ◌-◌, ◌%◌, ◌<◌, ◌≤◌, Bool, true, false, cond, eqb, ◌⊎◌, List, map, length, get_or, take, sym, refl, ap, ◌∙◌, subst, inl, inr, arith}
-use Rattle.std.proofs.lemmas.List.{get_or-take, get_or-map, get_or_past, length-map, length-take-le, ext_get_or}
+use Rattle.std.proofs.Common.{◌≡◌, ℕ, zero, suc, ◌-◌, ◌%◌, ◌<◌, ◌≤◌, true, eqb, List, map, length, take, sym, refl, ap, ◌∙◌, subst, inl, inr, arith}
+use Rattle.std.proofs.lemmas.List.{get_or-take, get_or-map, length-map, length-take-le, ext_get_or}
 use Rattle.std.proofs.lemmas.Bool.{cases_lt, cases_eq, cond_both}
 use Rattle.dossier.specs.declared.record.Row.{Row}
 use Rattle.dossier.specs.declared.record.Row.TheVariants.{Plain, FromLine, FromStep, Advice, AdviceEnd}
-use Rattle.dossier.specs.declared.record.Touch.{Touch}
 use Rattle.dossier.specs.declared.record.Line.{Line}
 use Rattle.run_log.specs.Log.{Event, quiet, touch, zeroed, event_at, hits, left, touches, memory, touch_before, touch_after, line_of, log_lines, log_rows, row_of, event_of, events_of, Aligned}
-use Rattle.run_log.specs.Rules.{row_at, line_at, kind_of, touch_of, IsTouch, LineOrder, LineStep, LineOrigin, StepOrigin, LedOn, NextLink, RowLinks, Linked}
-use Rattle.run_log.specs.Words.{IsLast, IsNext}
+use Rattle.run_log.specs.Rules.{row_at, line_at, kind_of, touch_of, IsTouch, LineOrder, LineStep, LineOrigin, StepOrigin, NextLink, RowLinks, Linked}
+use Rattle.run_log.specs.Words.{IsLast}
 use Rattle.run_log.proofs.Sound.{sound}
 use Rattle.run_log.proofs.Find.{latest_is, next_cases, after_is}
 use Rattle.run_log.proofs.Rows.{event_row, hitting, log_row, length_events}
 use Rattle.index.specs.declared.entry.CellEntry.{CellEntry}
 use Rattle.index.specs.Tree.{none, cell_of}
 use Rattle.index.specs.Order.{Arranged}
-use Rattle.runner.specs.Sofar.{FirstRow, LaterRow, NextRow, OpenAt, LastAt, Sofar}
+use Rattle.runner.specs.Sofar.{LastAt, Sofar}
 use Rattle.runner.specs.Filling.{entry_at}
 use Rattle.runner.specs.Label.{with_line, first_of, Openings, Labelled}
 use Rattle.runner.specs.Ending.{entry_of, log_cells}

@@ -1,6 +1,6 @@
 -- One step of the run, by what it asks.
 -- Assumes nothing.
-use Rattle.std.proofs.Common.{◌≡◌, ℕ, suc, cond, eqb, List, Some, None, Option, sym, refl, ap, ◌∙◌}
+use Rattle.std.proofs.Common.{◌≡◌, ℕ, suc, cond, eqb, List, Some, Option, sym, ap, ◌∙◌}
 use Rattle.machine.specs.declared.cpu.Cpu.{Cpu}
 use Rattle.machine.specs.declared.step.Demand.{Demand}
 use Rattle.machine.specs.declared.step.Demand.TheVariants.{Nothing, Cell, Primary, Advice, Halt}

@@ -1,17 +1,16 @@
 -- From one step of the run to the next.
 -- Assumes nothing.
-use Rattle.std.proofs.Common.{◌≡◌, ℕ, suc, ◌+◌, ◌-◌, ◌<◌, ◌≤◌, cond, eqb, List, [], ◌∷◌, length, get_or, drop, set, Some, None, Option, sym, refl, ap, ◌∙◌, subst, add-one, arith, drop-cons}
-use Rattle.std.proofs.lemmas.List.{drop_all, get_or_default}
+use Rattle.std.proofs.Common.{◌≡◌, ℕ, suc, ◌+◌, ◌-◌, ◌<◌, ◌≤◌, cond, eqb, List, [], ◌∷◌, length, get_or, drop, set, Some, None, Option, sym, refl, ap, ◌∙◌, subst, arith, drop-cons}
+use Rattle.std.proofs.lemmas.List.{drop_all}
 use Rattle.encoding.specs.declared.operation.Operation.{Operation}
 use Rattle.machine.specs.declared.cpu.Cpu.{Cpu}
 use Rattle.machine.specs.declared.step.Demand.{Demand}
-use Rattle.machine.specs.declared.step.Demand.TheVariants.{Nothing, Cell, Primary, Advice, Halt}
+use Rattle.machine.specs.declared.step.Demand.TheVariants.{Cell, Advice}
 use Rattle.machine.specs.Effects.{asked, left, stepped}
 use Rattle.dossier.specs.declared.record.Row.{Row}
 use Rattle.dossier.specs.declared.record.Row.TheVariants as row
 use Rattle.dossier.specs.declared.record.Touch.{Touch}
-use Rattle.run_log.specs.Log.{Event, quiet, word, ended, touch, event_of}
-use Rattle.run_log.specs.Rules.{IsTouch}
+use Rattle.run_log.specs.Log.{Event, touch, event_of}
 use Rattle.run_log.specs.Run.{head, tail, heard}
 use Rattle.tinyram.specs.Program.{operation, demand}
 use Rattle.index.specs.declared.entry.CellEntry.{CellEntry}

@@ -1,23 +1,22 @@
 -- One more step of a run, in the tables.
 -- Assumes nothing.
-use Rattle.std.proofs.Common.{◌≡◌, ℕ, zero, suc, ◌+◌, ◌-◌, ◌<◌, ◌≤◌, cond, eqb, ◌⊎◌, List, length, get_or, set, sym, refl, ap, ◌∙◌, subst, inl, inr, add-one, arith}
+use Rattle.std.proofs.Common.{◌≡◌, ℕ, zero, suc, ◌+◌, ◌-◌, ◌<◌, ◌≤◌, cond, eqb, List, length, get_or, set, sym, refl, ap, ◌∙◌, subst, inl, inr, add-one, arith}
 use Rattle.std.proofs.lemmas.List.{get_or_default, get_or-set_same, get_or-set_other, length-set}
-use Rattle.std.proofs.lemmas.Bool.{cases_lt, cases_eq}
+use Rattle.std.proofs.lemmas.Bool.{cases_eq}
 use Rattle.dossier.specs.declared.record.Row.{Row}
-use Rattle.dossier.specs.declared.record.Row.TheVariants.{Plain, FromLine, FromStep, Advice, AdviceEnd}
+use Rattle.dossier.specs.declared.record.Row.TheVariants.{Plain, FromLine, FromStep}
 use Rattle.dossier.specs.declared.record.Touch.{Touch}
 use Rattle.run_log.specs.Log.{Event, event_of}
 use Rattle.run_log.specs.Log as log
-use Rattle.run_log.specs.Rules.{row_at, kind_of, touch_of, IsTouch}
+use Rattle.run_log.specs.Rules.{row_at, touch_of, IsTouch}
 use Rattle.index.specs.declared.entry.CellEntry.{CellEntry}
 use Rattle.index.specs.declared.tree.Index.{Index}
-use Rattle.index.specs.declared.tree.Seat.TheVariants.{Taken, Free}
 use Rattle.index.specs.Tree.{none, cell_of}
-use Rattle.index.specs.Map.{Keeps, FindsIn, RoomFor}
-use Rattle.runner.specs.Sofar.{link_to, Other, LastAt, Sofar, Holds}
+use Rattle.index.specs.Map.{Keeps, RoomFor}
+use Rattle.runner.specs.Sofar.{link_to, Other}
 use Rattle.runner.specs.Filling.{entry_at, Filling, Beyond}
 use Rattle.runner.proofs.Memory.{holds_same, holds_first, holds_later}
-use Rattle.runner.proofs.Steps.{Same, same, link_same, link_next, Stepped, quiet_step, first_step, later_step}
+use Rattle.runner.proofs.Steps.{Same, same, link_same, link_next, quiet_step, first_step, later_step}
 
 pub beyond_set : {X : Type 0} (n : ℕ) (xs : List X) (i : ℕ) (y : X) → i < n → Beyond n xs (set xs i y)
 beyond_set n xs i y l = record { long = length-set xs i y; same = λ k d h. get_or-set_other xs i k y d (λ z. omega arith) }

@@ -1,30 +1,29 @@
 -- The start, and the whole run.
 -- Assumes nothing.
-use Rattle.std.proofs.Common.{◌≡◌, ℕ, zero, suc, ◌+◌, ◌-◌, ◌%◌, ◌<◌, ◌≤◌, true, false, ◌⊎◌, List, [], ◌++◌, map, length, get_or, take, drop, Some, None, Ok, Err, Option, Result, sym, refl, ap, ◌∙◌, subst, inl, inr, arith}
+use Rattle.std.proofs.Common.{◌≡◌, ℕ, zero, suc, ◌+◌, ◌%◌, ◌<◌, ◌≤◌, true, false, List, ◌++◌, length, get_or, drop, None, Ok, Option, Result, sym, refl, ap, ◌∙◌, subst, inl, inr, arith}
 use Rattle.std.proofs.lemmas.List.{take-append-drop, get_or_default, length-drop, get_or-drop, get_or_past, same_lists}
 use Rattle.std.proofs.lemmas.Bool.{cases_lt, eqb-true, both_ways}
 use Rattle.machine.specs.State.{start}
 use Rattle.machine.specs.declared.cpu.Cpu.{Cpu}
 use Rattle.dossier.specs.declared.record.Row.{Row}
 use Rattle.dossier.specs.declared.record.Row.TheVariants.{Plain}
-use Rattle.run_log.specs.Log.{Event, quiet, zeroed, event_at, hits, log_rows, Aligned, touches}
+use Rattle.run_log.specs.Log.{Event, quiet, zeroed, event_at, hits, log_rows, Aligned}
 use Rattle.run_log.specs.Rules.{row_at, kind_of}
 use Rattle.run_log.specs.Run.{Demand, alone, advice, access, answer, Config, asked, shown, heard}
 use Rattle.run_log.proofs.Along.{trace_at, length_trace, heard_misses}
 use Rattle.tinyram.proofs.Run.{fourths}
-use Rattle.tinyram.specs.Program.{rows_of, lines_of, events_in}
+use Rattle.tinyram.specs.Program.{lines_of, events_in}
 use Rattle.index.specs.declared.entry.CellEntry.{CellEntry}
 use Rattle.index.specs.declared.tree.Index.{Index}
 use Rattle.index.specs.Tree.{none}
 use Rattle.index.specs.Map.{Keeps, RoomFor}
 use Rattle.index.specs.Order.{Arranged}
 use Rattle.runner.specs.declared.state.Input.{Input}
-use Rattle.runner.specs.declared.state.Progress.{Progress}
 use Rattle.runner.specs.declared.ending.Run.{Run}
 use Rattle.runner.specs.declared.refusal.RunRefusal.{RunRefusal}
 use Rattle.runner.specs.Ending.{ending, steps_in, run_of, log_cells}
 use Rattle.runner.specs.Ran.{Answers}
-use Rattle.runner.specs.Filling.{entry_at, Beyond, Filling, machine_of, config_at, event_of_step, Going}
+use Rattle.runner.specs.Filling.{Beyond, Filling, machine_of, config_at, event_of_step, Going}
 use Rattle.runner.specs.Label.{first_of, Openings, Labelled}
 use Rattle.runner.proofs.Finish.{openings, rows_are, cells_are, count_is}
 

@@ -7,7 +7,7 @@
 --   `refusalNumber e`, `refusalValues e`   the number of a refusal, 0 where it has none, and the values that it returns
 --
 -- Assumes nothing.
-use Rattle.std.specs.Prelude.{ℕ, ◌+◌, Bool, cond, ◌&&◌, List, [], ◌∷◌, length, Some, None, Option, nat_le}
+use Rattle.std.specs.Prelude.{ℕ, ◌+◌, cond, ◌&&◌, List, [], ◌∷◌, length, Some, None, Option, nat_le}
 use Rattle.encoding.specs.declared.instruction.Instruction.{Instruction}
 use Rattle.encoding.specs.Formed.{well_formed}
 use Rattle.runner.specs.declared.refusal.Limit.{Limit}

@@ -1,6 +1,6 @@
 -- Items of a list, asked for one by one.
 -- Assumes nothing.
-use Rattle.std.proofs.Common.{◌≡◌, ℕ, zero, suc, ◌%◌, ◌^◌, ◌<◌, ◌≤◌, List, [], ◌∷◌, map, length, get_or, Some, None, Ok, Err, Option, Result, sym, refl, ap, ◌∙◌, mod-lt, arith}
+use Rattle.std.proofs.Common.{◌≡◌, ℕ, zero, suc, ◌<◌, ◌≤◌, List, [], ◌∷◌, map, length, get_or, Some, None, Ok, Err, Option, Result, sym, refl, ap, ◌∙◌, arith}
 use Rattle.std.specs.List.{slice_get}
 use Rattle.std.proofs.lemmas.List.{length-map}
 use Rattle.std.proofs.lemmas.Option.{slice_get_read, slice_get_past}
@@ -8,9 +8,8 @@ use Rattle.dossier.specs.declared.record.Head.{Head}
 use Rattle.dossier.specs.declared.refusal.Part.{Part}
 use Rattle.dossier.specs.declared.refusal.Refusal.{Refusal}
 use Rattle.dossier.specs.declared.refusal.Refusal.TheVariants.{Past}
-use Rattle.dossier.specs.Meaning.{Item, item_answer, ItemFits, Each}
-use Rattle.dossier.specs.Numbers.{Fit}
-use Rattle.table.specs.Held.{word, listed}
+use Rattle.dossier.specs.Meaning.{item_answer}
+use Rattle.table.specs.Held.{listed}
 
 nth_map : {R S : Type 0} (f : R → S) (xs : List R) (k : ℕ) (x : R) → slice_get xs k ≡ Some x → slice_get (map f xs) k ≡ Some (f x)
 nth_map f [] k x e = let z : ◌≡◌ {A = ℕ} 0 1 = cc in absurd (omega arith)

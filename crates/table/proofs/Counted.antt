@@ -1,17 +1,16 @@
 -- The head counts the lists, and every number is a word.
 -- Assumes nothing.
-use Rattle.std.proofs.Common.{◌≡◌, ℕ, ◌%◌, ◌^◌, ◌<◌, ltb, List, [], ◌∷◌, map, length, Some, None, Ok, Err, Option, sym, refl, ◌∙◌, mod-lt, arith, ltb-true}
+use Rattle.std.proofs.Common.{◌≡◌, ℕ, ◌^◌, ◌<◌, ltb, List, [], ◌∷◌, map, length, Some, None, Ok, Option, sym, refl, ◌∙◌, mod-lt, arith, ltb-true}
 use Rattle.std.proofs.lemmas.List.{length-map}
 use Rattle.std.proofs.lemmas.Bool.{cond_both}
 use Rattle.encoding.specs.declared.instruction.Instruction.{Instruction}
 use Rattle.dossier.specs.declared.record.Head.{Head}
-use Rattle.dossier.specs.declared.record.Line.{Line}
 use Rattle.dossier.specs.declared.record.Row.{Row}
 use Rattle.dossier.specs.declared.record.Row.TheVariants.{Plain, FromLine, FromStep, Advice, AdviceEnd}
-use Rattle.dossier.specs.Meaning.{Item, ItemFits, Each, Listed, Made}
+use Rattle.dossier.specs.Meaning.{ItemFits, Each, Listed, Made}
 use Rattle.dossier.specs.Numbers.{Fit, head_numbers, instruction_numbers, word_numbers, line_numbers, row_numbers}
 use Rattle.index.specs.declared.entry.CellEntry.{CellEntry}
-use Rattle.table.specs.Held.{word, instruction_words, line_of, row_words, counting, head_of, head_item, listed, held, table_meaning}
+use Rattle.table.specs.Held.{word, instruction_words, line_of, row_words, head_of, held, table_meaning}
 
 fits : (n : ℕ) → word n < 2 ^ 32
 fits n = mod-lt n (omega arith)

@@ -7,7 +7,7 @@
 --   listed h xs                     the items of a list, which is empty without a head
 --   table_meaning b p ws cs rs       the meaning; layer 2 finds the head missing
 -- Assumes nothing.
-use Rattle.std.specs.Prelude.{ℕ, ◌%◌, ◌^◌, cond, List, [], ◌∷◌, map, length, Some, None, Ok, Err, Option, nat_lt}
+use Rattle.std.specs.Prelude.{ℕ, ◌%◌, ◌^◌, cond, List, [], map, length, Some, None, Ok, Err, Option, nat_lt}
 use Rattle.encoding.specs.declared.instruction.Instruction.{Instruction}
 use Rattle.dossier.specs.declared.record.Head.{Head}
 use Rattle.dossier.specs.declared.record.Line.{Line}

@@ -1,10 +1,10 @@
 -- A store changes the bytes that it covers, and no other byte of memory.
-use Rattle.std.proofs.Common.{◌≡◌, ℕ, zero, suc, ◌+◌, ◌*◌, ◌/◌, ◌%◌, ◌<◌, Bool, true, false, cond, eqb, ◌≢◌, ◌⊎◌, [], ◌∷◌, get_or, set, sym, refl, ap, ◌∙◌, inl, inr, arith, get_or-set_other, get_or-set_same}
+use Rattle.std.proofs.Common.{◌≡◌, ℕ, zero, suc, ◌+◌, ◌*◌, ◌/◌, ◌%◌, ◌<◌, Bool, true, false, cond, eqb, ◌≢◌, [], ◌∷◌, get_or, set, refl, ap, ◌∙◌, inl, inr, arith, get_or-set_other, get_or-set_same}
 use Rattle.std.proofs.lemmas.Bool.{cases_eq}
 use Rattle.std.proofs.lemmas.Bool.Decides.{nat_tests}
 use Rattle.word.specs.declared.cell.Size.{Size}
 use Rattle.word.specs.declared.cell.Size.TheVariants.{Byte, Word}
-use Rattle.word.specs.Cell.{bytes_of, word_of, cell_of, loaded, stored, byte_at, with_cell, covers, byte_stored, Bytewise}
+use Rattle.word.specs.Cell.{bytes_of, word_of, cell_of, stored, Bytewise}
 
 -- four bytes make a word with these bytes
 bytes_back : (p q r s : ℕ) → p < 256 → q < 256 → r < 256 → s < 256 → bytes_of (word_of (p ∷ q ∷ r ∷ s ∷ [])) ≡ p ∷ q ∷ r ∷ s ∷ []

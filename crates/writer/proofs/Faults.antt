@@ -1,11 +1,11 @@
 -- The first unreadable item of a part, one place at a time. Assumes nothing.
-use Rattle.std.proofs.Common.{◌≡◌, ℕ, zero, suc, ◌+◌, ◌<◌, ◌≤◌, List, [], ◌∷◌, length, drop, Ok, Err, sym, refl, ap, ◌∙◌, add-one, arith}
+use Rattle.std.proofs.Common.{◌≡◌, ℕ, zero, suc, ◌+◌, ◌<◌, ◌≤◌, List, [], ◌∷◌, length, drop, Ok, Err, sym, refl, ap, ◌∙◌, arith}
 use Rattle.std.specs.List.{slice_get}
 use Rattle.std.proofs.lemmas.List.{drop_all}
 use Rattle.dossier.specs.declared.refusal.Part.{Part}
 use Rattle.dossier.specs.declared.refusal.Refusal.{Refusal}
 use Rattle.dossier.specs.Meaning.{Item, Each, IsRecord, item_answer}
-use Rattle.writer.specs.Write.{first_fault, then_try}
+use Rattle.writer.specs.Write.{first_fault}
 
 module _ {R : Type 0} (p : Part) where
   pub fault_here : (j k : ℕ) (xs : List (Item R)) (e : Refusal) → k < length xs → Err e ≡ item_answer p j (slice_get xs k) → first_fault p j (drop k xs) ≡ Err e

@@ -1,5 +1,5 @@
 -- The whole of a dossier, tried and put. Assumes nothing.
-use Rattle.std.proofs.Common.{◌≡◌, ℕ, ◌+◌, ◌-◌, ◌≤◌, Bool, true, cond, leb, List, [], ◌∷◌, ◌++◌, length, take, drop, Some, Ok, Err, Result, sym, refl, ap, ◌∙◌, subst, append_assoc, arith}
+use Rattle.std.proofs.Common.{◌≡◌, ℕ, ◌≤◌, Bool, true, cond, leb, List, ◌++◌, length, take, Some, Ok, Err, Result, sym, refl, ap, ◌∙◌, subst, append_assoc, arith}
 use Rattle.std.proofs.lemmas.List.{take_all, take_at}
 use Rattle.std.proofs.lemmas.Bool.Decides.{nat_tests}
 use Rattle.dossier.specs.declared.record.Head.{Head}
@@ -9,8 +9,7 @@ use Rattle.dossier.specs.Meaning.{Item, Meaning, Made, Readable, IsRecord, item_
 use Rattle.field.specs.Bytes.{field_bytes, filled}
 use Rattle.field.specs.Payload.{head_payload}
 use Rattle.field.specs.Fields.{filled_is}
-use Rattle.writer.specs.declared.refusal.WriteRefusal.{WriteRefusal}
-use Rattle.writer.specs.declared.refusal.WriteRefusal.TheVariants.{Asked, Room}
+use Rattle.writer.specs.declared.refusal.WriteRefusal.TheVariants.{Room}
 use Rattle.codec.specs.Layout.{file_size}
 use Rattle.codec.specs.Held.{meaning_of}
 use Rattle.codec.specs.Written.{head_bytes, instructions_bytes, words_bytes, lines_bytes, rows_bytes, written}

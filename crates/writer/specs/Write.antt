@@ -4,12 +4,12 @@
 --   write_answer m room     the answer: the head's refusal, then refusal 15, then an item's, else the length
 --   left answer new old     the bytes after the answer: new and the rest of old, or old where it is a refusal
 --   write-number, write-values      the number of a refusal, and the values that it returns
-use Rattle.std.specs.Prelude.{ℕ, ◌+◌, cond, List, [], ◌∷◌, ◌++◌, length, drop, Ok, Err, Result, nat_le}
+use Rattle.std.specs.Prelude.{ℕ, ◌+◌, cond, List, [], ◌∷◌, ◌++◌, drop, Ok, Err, Result, nat_le}
 use Rattle.dossier.specs.declared.record.Head.{Head}
 use Rattle.dossier.specs.declared.refusal.Part.{Part}
 use Rattle.dossier.specs.declared.refusal.Part.TheVariants as part
 use Rattle.dossier.specs.declared.refusal.Refusal.{Refusal}
-use Rattle.dossier.specs.declared.refusal.Refusal.TheVariants.{Past, Unreadable}
+use Rattle.dossier.specs.declared.refusal.Refusal.TheVariants.{Unreadable}
 use Rattle.dossier.specs.Meaning.{Item, Meaning, head_answer, refusal_number, refusal_values}
 use Rattle.field.specs.Bytes.{field_bytes, filled}
 use Rattle.writer.specs.declared.refusal.WriteRefusal.{WriteRefusal}

@@ -1,8 +1,7 @@
-use Rattle.std.proofs.Common.{◌≡◌, Ok, sym, ap, ◌∙◌, rules}
+use Rattle.std.proofs.Common.{Ok, sym, ap, ◌∙◌}
 use Rattle.lexer.specs.Lines.{lines}
 use Rattle.assembler.specs.Labels.{known}
 use Rattle.assembler.specs.Program.{program}
-use Rattle.assembler.specs.Text.{assembled}
 use Rattle.assembler.proofs.Whole.{short_answer, short_leaves, fit_answer, fit_leaves, fits}
 use Rattle.assembler.proofs.text.assemble.Goals as goal
 

@@ -1,5 +1,4 @@
 use Rattle.std.proofs.Common.{sym, subst}
-use Rattle.rules.specs.declared.call.Outcome.{Outcome}
 use Rattle.rules.proofs.Acceptance.{acceptance, all_at_once}
 use Rattle.rules.proofs.Dossiers.{existence, uniqueness}
 use Rattle.checking.specs.Laws.{AcceptsGenuine}

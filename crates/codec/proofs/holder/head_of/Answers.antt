@@ -1,5 +1,4 @@
-use Rattle.std.proofs.Common.{◌≡◌, Bool, false, cond, length, take, sym, ap, arith}
-use Rattle.std.proofs.lemmas.List.{take_all}
+use Rattle.std.proofs.Common.{length, sym, ap, arith}
 use Rattle.field.specs.Payload.{head_parsed}
 use Rattle.codec.specs.Held.{measured}
 use Rattle.codec.proofs.Items.{short_field}

@@ -1,4 +1,4 @@
-use Rattle.std.proofs.Common.{◌≡◌, ◌+◌, ◌*◌, ◌≤◌, length, drop, Some, None, sym, ap, ◌∙◌, arith}
+use Rattle.std.proofs.Common.{◌+◌, ◌*◌, ◌≤◌, length, drop, Some, None, sym, ap, arith}
 use Rattle.dossier.specs.Meaning.{item_answer}
 use Rattle.field.specs.Bytes.{field_read}
 use Rattle.codec.proofs.Items.{room, nth_none, item_found}

@@ -1,4 +1,4 @@
-use Rattle.std.proofs.Common.{◌≡◌, ℕ, ◌+◌, ◌-◌, ◌/◌, ◌%◌, List, length, get_or, set, sym, ap, ◌∙◌, mod-eq_of_lt, arith, length-set}
+use Rattle.std.proofs.Common.{◌≡◌, ℕ, ◌+◌, ◌-◌, ◌/◌, ◌%◌, List, length, get_or, set, ap, ◌∙◌, mod-eq_of_lt, arith, length-set}
 use Rattle.std.proofs.lemmas.Nat.{div_below}
 use Rattle.field.specs.Fields.{field_put}
 use Rattle.field.proofs.kind.write_field.Goals as goal

@@ -1,4 +1,4 @@
-use Rattle.std.proofs.Common.{◌≡◌, rules}
+use Rattle.std.proofs.Common.{rules}
 use Rattle.lexer.proofs.Split.{lines_next, shrinks}
 use Rattle.lexer.proofs.lines.next_line.Goals as goal
 

@@ -1,4 +1,4 @@
-use Rattle.std.proofs.Common.{sym, ◌∙◌, arith, rules}
+use Rattle.std.proofs.Common.{sym, ◌∙◌, arith}
 use Rattle.parser.proofs.Digits.{parsed}
 use Rattle.parser.proofs.number.digits_of.Goals as goal
 

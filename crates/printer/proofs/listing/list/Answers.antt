@@ -1,4 +1,4 @@
-use Rattle.std.proofs.Common.{◌≡◌, ◌++◌, ap, arith, rules}
+use Rattle.std.proofs.Common.{◌++◌, ap, arith, rules}
 use Rattle.printer.specs.Listing.{listing}
 use Rattle.printer.proofs.Back.{listing_turn, listing_end}
 use Rattle.printer.proofs.listing.list.Goals as goal

@@ -1,4 +1,4 @@
-use Rattle.std.proofs.Common.{◌≡◌, length, sym, ◌∙◌, arith}
+use Rattle.std.proofs.Common.{length, sym, ◌∙◌, arith}
 use Rattle.runner.proofs.Admitted.{within, ill_inside}
 use Rattle.runner.proofs.limits.refusal.Goals as goal
 

@@ -1,4 +1,4 @@
-use Rattle.std.proofs.Common.{◌≡◌, ℕ, Ok, sym, refl, ap, ◌∙◌, arith}
+use Rattle.std.proofs.Common.{ℕ, Ok, ap, arith}
 use Rattle.runner.specs.declared.state.Input.{Input}
 use Rattle.runner.specs.Ending.{steps_in}
 use Rattle.runner.specs.Filling.{config_at}

@@ -1,8 +1,6 @@
-use Rattle.std.proofs.Common.{◌≡◌, ℕ, ◌≤◌, sym, refl, ap, ◌∙◌, subst, arith}
+use Rattle.std.proofs.Common.{◌≡◌, ℕ, sym, ◌∙◌, subst, arith}
 use Rattle.runner.specs.Filling.{Filling, Beyond, config_at, event_of_step}
 use Rattle.runner.proofs.Tables.{beyond_trans}
-use Rattle.runner.proofs.Onward.{beyond_same}
-use Rattle.runner.proofs.Whole.{started}
 use Rattle.runner.proofs.Ends.{ends_now, ends_later, ends_out}
 use Rattle.runner.proofs.step.log_steps.Goals as goal
 

@@ -1,4 +1,4 @@
-use Rattle.std.proofs.Common.{◌≡◌, sym, refl, ap, ◌∙◌, add-one}
+use Rattle.std.proofs.Common.{sym, refl, ap, ◌∙◌, add-one}
 use Rattle.runner.specs.Filling.{entry_at, config_at}
 use Rattle.runner.proofs.Onward.{onward_later}
 use Rattle.runner.proofs.touch.later_touch.Goals as goal

@@ -1,4 +1,4 @@
-use Rattle.std.proofs.Common.{arith, rules}
+use Rattle.std.proofs.Common.{rules}
 use Rattle.assembler.proofs.Tables.{length_paired}
 use Rattle.assembler.proofs.labels.Labels.size.Goals as goal
 

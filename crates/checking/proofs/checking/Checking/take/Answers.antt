@@ -1,4 +1,3 @@
-use Rattle.std.proofs.Common.{rules}
 use Rattle.checking.specs.Taking.{checked_now}
 use Rattle.checking.proofs.Taking.{moved_ok, moved_err}
 use Rattle.checking.proofs.checking.Checking.take.Goals as goal

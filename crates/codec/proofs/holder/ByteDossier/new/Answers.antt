@@ -1,4 +1,4 @@
-use Rattle.std.proofs.Common.{refl, arith, rules}
+use Rattle.std.proofs.Common.{refl, arith}
 use Rattle.field.specs.Bytes.{Bytes}
 use Rattle.codec.proofs.Laws.{written_form}
 use Rattle.codec.proofs.holder.ByteDossier.new.Goals as goal

@@ -1,8 +1,4 @@
-use Rattle.std.proofs.Common.{◌≡◌, length, drop, sym, refl, ap, ◌∙◌, arith}
-use Rattle.std.specs.List.{slice_get}
-use Rattle.dossier.specs.declared.refusal.Part.TheVariants as part
-use Rattle.dossier.specs.Meaning.{item_answer, instruction_answer}
-use Rattle.codec.specs.Held.{held, items, instruction_read}
+use Rattle.std.proofs.Common.{arith}
 use Rattle.codec.proofs.Meant.{long_enough}
 use Rattle.codec.proofs.holder.ByteDossierDossier.instruction.Goals as goal
 

@@ -1,4 +1,4 @@
-use Rattle.std.proofs.Common.{◌≡◌, ◌-◌, length, set, sym, ◌∙◌, arith, length-set}
+use Rattle.std.proofs.Common.{◌-◌, length, set, arith, length-set}
 use Rattle.dossier.specs.Numbers.{row_numbers}
 use Rattle.field.specs.RowForm.{row_length, led_put}
 use Rattle.field.proofs.rows.RowKind.write.Goals as goal
