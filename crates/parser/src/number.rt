@@ -9,10 +9,18 @@ use lexer::token::after_minus;
 pub(crate) fn register_of(text: &str) -> Option<u8>
     ensures { result ≡ register_of text.now }
 {
-    match text.as_bytes() {
-        [b'r', digit @ b'0'..=b'9'] => Some(digit - b'0'),
-        [b'r', b'1', digit @ b'0'..=b'5'] => Some(10 + (digit - b'0')),
-        _ => None,
+    let bytes = text.as_bytes();
+    if bytes.len() == 2 && bytes[0] == b'r' && b'0' <= bytes[1] && bytes[1] <= b'9' {
+        Some(bytes[1] - b'0')
+    } else if bytes.len() == 3
+        && bytes[0] == b'r'
+        && bytes[1] == b'1'
+        && b'0' <= bytes[2]
+        && bytes[2] <= b'5'
+    {
+        Some(10 + (bytes[2] - b'0'))
+    } else {
+        None
     }
 }
 
