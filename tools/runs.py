@@ -75,7 +75,7 @@ def row_text(row):
 
 def test_text(name, why, program, primary, auxiliary, bound):
     rows, cells, ending = log(program, primary, auxiliary, bound)
-    out = ["// " + why, "#[test]", "fn %s(rt: LibcRuntime) -> Result<(), Fail> {" % name, "    let program = ["]
+    out = ["// " + why, "#[test]", "fn %s(rt: HostRuntime) {" % name, "    let program = ["]
     for text in program:
         first, second = encode(text)
         out += ["        // " + text, "        Instruction { first: %d, second: %d }," % (first, second)]
@@ -86,19 +86,16 @@ def test_text(name, why, program, primary, auxiliary, bound):
             "    let primary: [u32; %d] = %s;" % (len(primary), primary),
             "    let auxiliary: [u32; %d] = %s;" % (len(auxiliary), auxiliary),
             "    let run = Run { ending: %s, cells: %d };" % (shown, len(cells)),
-            "    check_run(rt.alloc(), &program, &primary, &auxiliary, %d, run, &rows, &cells)" % bound, "}"]
+            "    check_run(&rt, rt.alloc(), &program, &primary, &auxiliary, %d, run, &rows, &cells);" % bound, "}"]
     return "\n".join(out)
 
 
 HEAD = """// Runs and their logs.
 // Made by tools/runs.py.
 use crate::check::check_run;
-use dossier::record::Row;
-use dossier::record::Touch;
+use dossier::record::{Row, Touch};
 use encoding::instruction::Instruction;
-use runner::ending::Ending;
-use runner::ending::Run;
-use std::test::*;
+use runner::ending::{Ending, Run};
 
 """
 
