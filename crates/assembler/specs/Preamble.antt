@@ -1,7 +1,7 @@
 -- The preamble.
---   preamble        the eight instructions
+--   preamble         the eight instructions
 --   starts_with f p  the list p starts with the instructions f
---   properness p    1 if p starts with the preamble, else 0
+--   properness p     1 if p starts with the preamble, else 0
 -- Assumes nothing.
 use Rattle.std.specs.Prelude.{ℕ, Bool, true, false, cond, ◌&&◌, List, [], ◌∷◌, ◌==◌}
 use Rattle.word.specs.declared.operator.Arithmetic.TheVariants.{Add}

@@ -1,6 +1,6 @@
 -- What a line gives once the labels ls are known.
---   settled ls a    the operand a, its label replaced by the number that it stands for
---   resolved ls s   the instruction that s writes, if its label is defined
+--   settled ls a     the operand a, its label replaced by the number that it stands for
+--   resolved ls s    the instruction that s writes, if its label is defined
 --   line_gives ls l  what the line l gives: nothing, an instruction, or an undefined label
 -- Assumes nothing.
 use Rattle.std.specs.Prelude.{ℕ, List, Some, None, Option}

@@ -2,8 +2,8 @@
 --   in_stage p s     the progress p in stage s
 --   stage_now p      the stage in which the next unit is taken
 --   checked_now m p  the check of the next unit
---   settled s c     the stage after the check c of a unit in stage s, which stays where something was found
---   passed c        whether the check found something
+--   settled s c      the stage after the check c of a unit in stage s, which stays where something was found
+--   passed c         whether the check found something
 -- Assumes nothing.
 use Rattle.std.specs.Prelude.{Ok, Err, Result}
 use Rattle.dossier.specs.Meaning.{Meaning}

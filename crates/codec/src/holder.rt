@@ -1,7 +1,7 @@
 // Layer 1: a dossier in the bytes of a file.
-ghost use Rattle.std.specs.Prelude.{◌≡◌, ℕ, ◌+◌, ◌*◌, ◌≤◌, length, drop};
+ghost use Rattle.std.specs.Prelude.{◌≡◌, ◌+◌, ◌*◌, ◌≤◌, length, drop};
 ghost use Rattle.std.specs.List.{slice_get};
-ghost use Rattle.dossier.specs.Meaning.{Meaning, Made, Readable, item_answer, head_answer, instruction_answer, word_answer, line_answer, row_answer};
+ghost use Rattle.dossier.specs.Meaning.{Readable, item_answer};
 ghost use Rattle.field.specs.Bytes.{Bytes, field_read};
 ghost use Rattle.codec.specs.Held.{head_of, items, meaning_of};
 ghost use Rattle.codec.specs.Written.{written};

@@ -1,6 +1,6 @@
 -- The number of each finding and of each refusal to advance, and the values that it returns.
---   finding-number, finding-values   a finding gives the part and place of its unit; 22 also the fault
---   refused-number, refused-values   3 gives 0, 4 the units left, 5 the finding
+--   finding_number, finding_values   a finding gives the part and place of its unit; 22 also the fault
+--   refused_number, refused_values   3 gives 0, 4 the units left, 5 the finding
 -- Assumes nothing.
 use Rattle.std.specs.Prelude.{ℕ, List, [], ◌∷◌}
 use Rattle.dossier.specs.Meaning.{part_number}

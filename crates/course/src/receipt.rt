@@ -1,5 +1,5 @@
 // The receipt: four lines that tell the verdict.
-ghost use Rattle.std.specs.Prelude.{ℕ, List, Some};
+ghost use Rattle.std.specs.Prelude.{Some};
 ghost use Rattle.course.specs.Receipt.{finding_text, last_line, receipt_text};
 
 use crate::number::{part_number, rule_number};

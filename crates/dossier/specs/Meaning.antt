@@ -1,11 +1,11 @@
 -- What a dossier means: a head or none, and four lists of items.
---   Item R                     a record, or the number of the layer that found it unreadable
---   Meaning                    the head and the four lists
---   head_answer m              what the question for the head answers
---   instruction_answer m k, word-answer, line-answer, row-answer      what the question for place k answers
---   Made m                     the head counts the lists, and every number fits 32 bits
---   Readable m                 there is a head, and a record at each place
---   refusal-number, refusal-values      the number of a refusal, and the values that it returns
+--   Item R                                                        a record, or the number of the layer that found it unreadable
+--   Meaning                                                       the head and the four lists
+--   head_answer m                                                 what the question for the head answers
+--   instruction_answer m k, word_answer, line_answer, row_answer  what the question for place k answers
+--   Made m                                                        the head counts the lists, and every number fits 32 bits
+--   Readable m                                                    there is a head, and a record at each place
+--   refusal_number, refusal_values                                the number of a refusal, and the values that it returns
 use Rattle.std.specs.Prelude.{◌≡◌, ℕ, ◌^◌, ◌<◌, List, [], ◌∷◌, length, Some, None, Ok, Err, Option, Result}
 use Rattle.std.specs.List.{slice_get}
 use Rattle.encoding.specs.declared.instruction.Instruction.{Instruction}

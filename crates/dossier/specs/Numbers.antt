@@ -1,7 +1,7 @@
 -- The numbers that a record is made of, in the order of its fields, and the numbers of the kinds of row.
---   head-numbers, instruction-numbers, word-numbers, line-numbers, row-numbers   a record's numbers
---   Fit f r          every number of r, by f, is below 2 ^ 32
---   same f a b       a and b have the same numbers, by f
+--   head_numbers, instruction_numbers, word_numbers, line_numbers, row_numbers  a record's numbers
+--   Fit f r                                                                     every number of r, by f, is below 2 ^ 32
+--   same f a b                                                                  a and b have the same numbers, by f
 use Rattle.std.specs.Prelude.{ℕ, ◌^◌, ◌<◌, Bool, true, false, ◌&&◌, List, [], ◌∷◌, ◌==◌}
 use Rattle.encoding.specs.declared.instruction.Instruction.{Instruction}
 use Rattle.dossier.specs.declared.record.Head.{Head}

@@ -1,5 +1,5 @@
 // What an instruction says.
-ghost use Rattle.std.specs.Prelude.{◌≡◌, ◌<◌, T, Some};
+ghost use Rattle.std.specs.Prelude.{◌≡◌, ◌<◌, Some};
 ghost use Rattle.encoding.specs.Encoding.{decoded, packed, placed, encoded, named};
 
 use crate::instruction::Instruction;

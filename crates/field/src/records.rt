@@ -1,7 +1,6 @@
 // The kinds of record whose payload is their numbers, each as a word.
-ghost use Rattle.std.specs.Prelude.{◌≡◌, ℕ, List, length, Some, None, Option};
+ghost use Rattle.std.specs.Prelude.{Some, None, Option};
 ghost use Rattle.dossier.specs.Numbers.{head_numbers, instruction_numbers, word_numbers, line_numbers};
-ghost use Rattle.field.specs.Bytes.{filled};
 ghost use Rattle.field.specs.Payload.{head_payload, head_parsed, instruction_payload, instruction_parsed, word_payload, word_parsed, line_payload, line_parsed};
 ghost use Rattle.field.specs.Forms.{head_form, instruction_form, word_form, line_form};
 

@@ -1,7 +1,6 @@
 // The kind of record that is a row: a byte for the kind of row, then five words.
-ghost use Rattle.std.specs.Prelude.{◌≡◌, ℕ, List, ◌∷◌, length, Some, None, Option};
+ghost use Rattle.std.specs.Prelude.{◌≡◌, ◌∷◌, Some, None, Option};
 ghost use Rattle.dossier.specs.Numbers.{row_numbers};
-ghost use Rattle.field.specs.Bytes.{filled};
 ghost use Rattle.field.specs.Payload.{row_payload, row_parsed, row_from};
 ghost use Rattle.field.specs.Forms.{row_form};
 

@@ -2,8 +2,8 @@
 -- The tree has m roots; entry k has the four slots from m + 4 k on. A cell's number in words, divided by m, gives the root
 -- by its rest, and by its quotient the digits of base 4 that are followed from there.
 --
---   `cell_of es k`                     the cell of entry k
---   `rootOf m c`, `rest_of m c`        the slot where the search for a cell starts, and the digits that are left
+--   `cell_of es k`                    the cell of entry k
+--   `root_of m c`, `rest_of m c`      the slot where the search for a cell starts, and the digits that are left
 --   `Leads m ls js s r k`             from slot s with digits r left, the links lead over the entries js to entry k
 --   `Kept m ls es n`                  ls is the tree of the first n entries, which are of different cells
 --   `FreeFor m ls n c s`              an entry for cell c that is put at slot s will be led to

@@ -1,6 +1,6 @@
 // Entries by rising cell. They compare by their cells alone.
-ghost use Rattle.std.specs.Prelude.{◌≡◌, ◌<◌, ◌≤◌, length, IsSomeAnd, Some, Decides, nat_eq, refl};
-ghost use Rattle.std.specs.Ordering.{MatchOrdering, on, nat_cmp};
+ghost use Rattle.std.specs.Prelude.{◌≤◌, length, Some, nat_eq, refl};
+ghost use Rattle.std.specs.Ordering.{on, nat_cmp};
 ghost use Rattle.index.specs.Order.{Apart, Arranged};
 ghost use Rattle.std.specs.Cmp.Rules.{comparing};
 ghost use Rattle.std.proofs.Common.{rules};

@@ -1,6 +1,5 @@
 // Layer 3: a direct-mapped cache of rows over any dossier.
 ghost use Rattle.std.specs.Prelude.{◌≡◌, replicate, None};
-ghost use Rattle.dossier.specs.Meaning.{Meaning, Made, head_answer, instruction_answer, word_answer, line_answer, row_answer};
 ghost use Rattle.layers.specs.Cache.{Slots};
 
 use dossier::questions::Dossier;

@@ -1,6 +1,6 @@
 // Layer 4: two dossiers, and what both agree on.
 ghost use Rattle.std.specs.Prelude.{◌≡◌, Ok, Err, Result};
-ghost use Rattle.dossier.specs.Meaning.{Meaning, Made, head_answer, instruction_answer, word_answer, line_answer, row_answer};
+ghost use Rattle.dossier.specs.Meaning.{Made, head_answer};
 ghost use Rattle.layers.specs.Pair.{paired, common_answer, headed};
 
 use dossier::questions::Dossier;

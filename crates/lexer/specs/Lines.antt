@@ -1,5 +1,5 @@
 -- A text as lines.
---   lines bs       the lines of a text, without their ends
+--   lines bs        the lines of a text, without their ends
 --   first_line bs   the first line
 --   other_lines bs  the text of the others
 -- Assumes nothing.

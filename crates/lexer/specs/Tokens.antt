@@ -4,7 +4,7 @@
 --   text_in bs       its text, which a mark and an end have not
 --   rest_in bs       what follows it
 --   token_in w bs    the token, with its place in the line of w bytes that bs is the end of
---   seen token      a token by its kind, its text and its place
+--   seen token       a token by its kind, its text and its place
 --   after_mark c bs  what follows the byte c at the very front of bs
 -- Assumes nothing.
 use Rattle.std.specs.Prelude.{ℕ, ◌-◌, cond, ◌&&◌, ◌||◌, List, [], length, drop, Some, None, Option, ◌==◌, slice_index}

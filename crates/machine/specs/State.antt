@@ -1,8 +1,8 @@
 -- The state of the machine but for its memory and its auxiliary tape, and its small changes.
---   start         all is 0
---   register_of s i, value_of s a   the word in register i, and the word that an operand stands for
---   holds when f  whether a jump takes place under the flag f
---   advanced, jumped, written, flagged, passed   one part changed
+--   start                                       all is 0
+--   register_of s i, value_of s a               the word in register i, and the word that an operand stands for
+--   holds when f                                whether a jump takes place under the flag f
+--   advanced, jumped, written, flagged, passed  one part changed
 -- Assumes nothing.
 use Rattle.std.specs.Prelude.{ℕ, ◌+◌, ◌%◌, ◌^◌, Bool, true, false, not, replicate, slice_index, slice_set}
 use Rattle.encoding.specs.declared.operation.Condition.{Condition}

@@ -1,6 +1,6 @@
 -- The names of the 29 instructions.
 --   name_of m      the name of a mnemonic
---   among ms w    the mnemonic of the list ms whose name is w, if there is one
+--   among ms w     the mnemonic of the list ms whose name is w, if there is one
 --   mnemonic_of w  the mnemonic whose name is w, if there is one
 -- Assumes nothing.
 use Rattle.std.specs.Prelude.{ℕ, cond, List, [], ◌∷◌, Some, None, codes, Option}

@@ -1,6 +1,6 @@
 -- Registers and integers.
 --   register_of w  the number of a register from r0 to r15, without leading zeros
---   written n ds  the number that the digits ds write after the number n
+--   written n ds   the number that the digits ds write after the number n
 --   digits_of w    the value modulo 2^32 of 1 to 10 digits
 --   integer_of w   the value modulo 2^32 of an integer: 1 to 10 digits after an optional minus
 -- Assumes nothing.

@@ -1,11 +1,11 @@
 -- The operands of an instruction.
---   ArgumentView     an operand as it is written: a register, an integer, or a label with its place
---   label w          a word that starts with an underscore is a label
+--   ArgumentView      an operand as it is written: a register, an integer, or a label with its place
+--   label w           a word that starts with an underscore is a label
 --   argument_of t     the operand that a token is
 --   operand_in w bs   the first operand of bs, the end of a line of w bytes, and what follows it
 --   register_in w bs  the same where a register is wanted
 --   comma_in bs       what follows a comma
---   ended bs         nothing follows but blanks and a comment
+--   ended bs          nothing follows but blanks and a comment
 --   and_then r f      what f makes of the value of r
 -- Assumes nothing.
 use Rattle.std.specs.Prelude.{ℕ, Bool, true, false, cond, ◌&&◌, List, length, Some, None, Option, ◌==◌, nat_lt}

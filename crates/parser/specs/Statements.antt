@@ -1,6 +1,6 @@
 -- One line of a program.
---   StatementView      an instruction as it is written; a register that it does not have is 0
---   LineView           a line: its label with its place, and its instruction
+--   StatementView       an instruction as it is written; a register that it does not have is 0
+--   LineView            a line: its label with its place, and its instruction
 --   operands_in m w bs  the instruction m with its operands, which bs begins with, and what follows them
 --   statement_in w bs   the instruction in bs, or none, if bs can be read
 --   line_in bs          the line bs, if it can be read

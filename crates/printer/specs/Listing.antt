@@ -3,7 +3,7 @@
 --   operand_text a    the operand A
 --   operation_text o  an operation as a line
 --   line_text n       the line of an instruction, ended by LF; one that is ill formed as the machine takes it
---   printed p        a program: the header, and a line for each instruction
+--   printed p         a program: the header, and a line for each instruction
 -- Assumes nothing.
 use Rattle.std.specs.Prelude.{ℕ, List, [], ◌∷◌, ◌++◌, decimal}
 use Rattle.encoding.specs.declared.mnemonic.Mnemonic.{Mnemonic}

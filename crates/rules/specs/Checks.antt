@@ -1,7 +1,7 @@
 -- What is tried at each unit, in order. A check asks the dossier for its own item first, and for another
 -- only when a rule needs it.
---   checkedInstruction, checkedLine, checkedRow   the checks of three kinds of unit; a primary word has no rule
---   checked m h w s                               the check of unit w in stage s: the stage after it, or the finding
+--   checked_instruction, checked_line, checked_row  the checks of three kinds of unit; a primary word has no rule
+--   checked m h w s                                 the check of unit w in stage s: the stage after it, or the finding
 -- Assumes nothing.
 use Rattle.std.specs.Prelude.{ℕ, ◌+◌, ◌-◌, ◌%◌, Bool, true, cond, not, ◌&&◌, ◌||◌, Some, None, Ok, Option, Result, ◌==◌, nat_le, nat_lt}
 use Rattle.encoding.specs.declared.instruction.Instruction.{Instruction}

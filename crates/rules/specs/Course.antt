@@ -1,13 +1,13 @@
 -- The course of a checking: how each call changes its progress, and what it answers.
---   begun m              a new checking of a dossier that means m
---   took m p             one unit more, or a finding
---   taking m p k         k units more, or up to a finding
---   refused p k          why an advance by k is refused, if it is
---   advanced m p k, advanceAnswer m p k   an advance by k: the progress after it, and its answer
---   reported p           what is told to who asks
---   closing p            what the close says
---   after m cs           the progress after a list of calls, refused ones included
---   taken_by m cs         what the amounts of the advances that answered their amount add up to
+--   begun m                               a new checking of a dossier that means m
+--   took m p                              one unit more, or a finding
+--   taking m p k                          k units more, or up to a finding
+--   refused p k                           why an advance by k is refused, if it is
+--   advanced m p k, advance_answer m p k  an advance by k: the progress after it, and its answer
+--   reported p                            what is told to who asks
+--   closing p                             what the close says
+--   after m cs                            the progress after a list of calls, refused ones included
+--   taken_by m cs                         what the amounts of the advances that answered their amount add up to
 -- Assumes nothing.
 use Rattle.std.specs.Prelude.{ℕ, zero, suc, ◌+◌, ◌-◌, Bool, cond, ◌&&◌, List, [], ◌∷◌, Some, None, Ok, Err, Option, Result, ◌==◌, nat_le, nat_lt}
 use Rattle.dossier.specs.declared.record.Head.{Head}

@@ -1,11 +1,11 @@
 -- THE LAWS OF CHECKING, in terms of dossiers, runs, tapes and logs.
---   program m, primary m, lines m, rows m   the records of a dossier
---   Genuine m        readable throughout, well formed, within limits, and the log of an accepting run on some tape
---   Accepted m       some list of calls on a new checking makes the close say accepted
---   Acceptance       accepted exactly when every unit was taken and the dossier is genuine
---   Advancing        an advance over a genuine dossier finds nothing
---   Existence        some dossier of a program, tape and bound is accepted exactly when some tape makes the program accept
---   Uniqueness       accepted dossiers alike in program, primary tape, bound and advice words are equal
+--   program m, primary m, lines m, rows m  the records of a dossier
+--   Genuine m                              readable throughout, well formed, within limits, and the log of an accepting run on some tape
+--   Accepted m                             some list of calls on a new checking makes the close say accepted
+--   Acceptance                             accepted exactly when every unit was taken and the dossier is genuine
+--   Advancing                              an advance over a genuine dossier finds nothing
+--   Existence                              some dossier of a program, tape and bound is accepted exactly when some tape makes the program accept
+--   Uniqueness                             accepted dossiers alike in program, primary tape, bound and advice words are equal
 -- Assumes nothing.
 use Rattle.std.specs.Prelude.{◌≡◌, ℕ, ◌+◌, ◌≤◌, true, List, map, length, Ok, Err}
 use Rattle.encoding.specs.declared.instruction.Instruction.{Instruction}

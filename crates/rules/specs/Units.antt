@@ -1,6 +1,6 @@
 -- The units of a dossier, and how the check of a unit goes from rule to rule.
 --   units h            how many units there are
---   unit_at h u         unit number u: instructions come first, then primary words, lines and rows
+--   unit_at h u        unit number u: instructions come first, then primary words, lines and rows
 --   part_of w, place_of w
 --   entered w s        the stage in which unit w is taken: the first of a part opens a new one
 --   then c f           go on with f unless c found something

@@ -32,7 +32,7 @@ not_below : (c : ℕ) (ls : List Line) → Every (λ k. c < k.cell) ls → Has c
 not_below c [] e h = h
 not_below c (l ∷ ls) e h = elim h [ inl x ↦ omega (arith, e.0) | inr x ↦ not_below c ls e.1 x ]
 
--- the three ways of `addLine`
+-- the three ways of `add_line`
 module _ (c t : ℕ) (l : Line) (ls : List Line) (P : List Line → Type 0) where
   pub add_ways : (c < l.cell → P (record { cell = c; step = t } ∷ l ∷ ls)) → (c ≡ l.cell → P (l ∷ ls)) → (l.cell < c → P (l ∷ add_line c t ls)) → P (add_line c t (l ∷ ls))
   add_ways below same above = elim (cases_order c l.cell) [

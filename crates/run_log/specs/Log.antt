@@ -1,15 +1,15 @@
 -- The log of what the steps of a run show: its rows and its opening lines.
 --
---   `Event`                    what a step shows: nothing, an advice word, an advice end, or a touch
---   `eventAt es t`             the event of step t, counted from 1
---   `touches es c t`           step t touches cell c
---   `memory initial es c t`    what cell c holds before step t
---   `touchBefore es c t`       the step of the touch of c before step t, or 0
---   `touchAfter es c t`        the step of the touch of c after step t, or 0
---   `logLines es`              the opening lines, by rising cell
---   `logRows initial es`       the rows
---   `eventsOf rs`              what rows say that the steps show
---   `IsLog initial rs ls`      rows and lines are the log of what the rows say, of cells that are multiples of 4
+--   `Event`                     what a step shows: nothing, an advice word, an advice end, or a touch
+--   `event_at es t`             the event of step t, counted from 1
+--   `touches es c t`            step t touches cell c
+--   `memory initial es c t`     what cell c holds before step t
+--   `touch_before es c t`       the step of the touch of c before step t, or 0
+--   `touch_after es c t`        the step of the touch of c after step t, or 0
+--   `log_lines es`              the opening lines, by rising cell
+--   `log_rows initial es`       the rows
+--   `events_of rs`              what rows say that the steps show
+--   `IsLog initial rs ls`       rows and lines are the log of what the rows say, of cells that are multiples of 4
 --
 -- Everywhere `initial` gives what each cell holds at the start; `zeroed` is memory that starts at 0. Assumes nothing.
 use Rattle.std.specs.Prelude.{◌≡◌, ℕ, zero, suc, ◌-◌, ◌%◌, Bool, true, false, cond, List, [], ◌∷◌, map, length, ◌==◌, nat_lt, slice_index_or}

@@ -1,15 +1,15 @@
 -- The link rules, which ask of a line or a row no more than its own record and those that it names.
 -- A rule is a record, a field for each thing that it asks; beside it stands the test that decides it.
 --
---   `row_at rs t`, `line_at ls j`    row t, counted from 1, and line j, counted from 0
---   `LineOrder ls j`               rule 24: the line's cell is a multiple of 4 and above the former line's
---   `LineStep rs ls j`             rule 25: the line's step is 1 to T, and its row is a touch from this line
---   `LineOrigin initial ls t x`    rule 31, touch from a line: the line has this cell and step, before is the initial value
---   `StepOrigin rs t x`            rule 31, touch from a step: the origin is an earlier touch of this cell that leads here
---   `NextLink rs t x`              rule 32: next is 0, or a later touch from this step
---   `Linked initial rs ls`         each line and each row keeps its rules
---   `lineFinding`, `linkFinding`   the number of the first rule that a line, a row breaks, or 0
---   `NoFinding initial rs ls`      no line and no row has one
+--   `row_at rs t`, `line_at ls j`   row t, counted from 1, and line j, counted from 0
+--   `LineOrder ls j`                rule 24: the line's cell is a multiple of 4 and above the former line's
+--   `LineStep rs ls j`              rule 25: the line's step is 1 to T, and its row is a touch from this line
+--   `LineOrigin initial ls t x`     rule 31, touch from a line: the line has this cell and step, before is the initial value
+--   `StepOrigin rs t x`             rule 31, touch from a step: the origin is an earlier touch of this cell that leads here
+--   `NextLink rs t x`               rule 32: next is 0, or a later touch from this step
+--   `Linked initial rs ls`          each line and each row keeps its rules
+--   `line_finding`, `link_finding`  the number of the first rule that a line, a row breaks, or 0
+--   `NoFinding initial rs ls`       no line and no row has one
 --
 -- Assumes nothing.
 use Rattle.std.specs.Prelude.{◌≡◌, ℕ, zero, suc, ◌%◌, ◌<◌, ◌≤◌, Bool, cond, ◌&&◌, ◌||◌, ◌⊎◌, List, length, ◌==◌, nat_le, nat_lt, slice_index_or}

@@ -6,10 +6,10 @@
 --   `trace M ws n`            what the first n steps show
 --   `Accepts M ws n`          step n answers 0, and no step before it answers
 --   `Logs M rs ls ws`         rows and lines log the run on ws up to the step that answers 0
---   `adviceOf rs`             the advice words of the rows
---   `stateAt M rs i`          the state after i rows, by what the rows say that the steps were given
+--   `advice_of rs`            the advice words of the rows
+--   `state_at M rs i`         the state after i rows, by what the rows say that the steps were given
 --   `Fits M rs`               each row fits its step: rules 26 to 30
---   `stepFinding`             the number of the first of these rules that a row breaks, or 0
+--   `step_finding`            the number of the first of these rules that a row breaks, or 0
 --
 -- Assumes nothing.
 use Rattle.std.specs.Prelude.{◌≡◌, ℕ, zero, suc, ◌%◌, ◌<◌, ◌≤◌, Bool, false, cond, ◌&&◌, ◌||◌, List, [], ◌∷◌, map, length, Some, None, Option, ◌==◌, ◌≢◌, nat_lt}

@@ -1,7 +1,7 @@
 -- The log of a small run, by computation: an advice word 7 is stored in cell 8 and loaded again.
 --
---   `sampleEvents`, `sampleRows`, `sampleLines`   the run's events, and its log
---   `rowsWith n`, `linesWith s`                   the same with row 2's next n, and with the line's step s
+--   `sample_events`, `sample_rows`, `sample_lines`  the run's events, and its log
+--   `rows_with n`, `lines_with s`                   the same with row 2's next n, and with the line's step s
 --
 -- Assumes nothing.
 use Rattle.std.specs.Prelude.{◌≡◌, ℕ, List, [], ◌∷◌}

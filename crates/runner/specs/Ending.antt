@@ -1,8 +1,8 @@
 -- How the run of a program ends, and what its log says of each cell at the end.
 --
---   `answerAt p primary aux i`     what step i + 1 answers, if it does
---   `ending p primary aux b`       how the run of at most b steps ends
---   `stepsIn b e`                  how many steps a run has made that ended so
+--   `answer_at p primary aux i`     what step i + 1 answers, if it does
+--   `ending p primary aux b`        how the run of at most b steps ends
+--   `steps_in b e`                  how many steps a run has made that ended so
 --   `entry_of es l`                 a line's cell and step, with the cell's last touch and what it holds after the events es
 --   `cells_of p primary aux T`      these entries of the run of T steps, by rising cell
 --   `run_of p primary aux b`        the ending, and how many cells were touched

@@ -1,13 +1,13 @@
 -- Where a run is, and what it has filled.
 --
---   `Beyond n xs ys`                   ys is as xs was from place n on
+--   `Beyond n xs ys`                     ys is as xs was from place n on
 --   `Filling ev mem B T n x rows cells`  tables and index after T steps that showed the events ev, left the memory mem
---                                      and touched n cells, with room for B steps
---   `configAt i T`                     the run's state, memory and unread tape after T steps
---   `Going i s x rows cells`           the run is at s
---   `Onward i s r x ..`                one step more takes it from s to r
---   `Quiet ws s g a d`                 a step that asks d shows nothing, gets g and answers a
---   `Logged i r x ..`                  the run has ended as r says
+--                                        and touched n cells, with room for B steps
+--   `config_at i T`                      the run's state, memory and unread tape after T steps
+--   `Going i s x rows cells`             the run is at s
+--   `Onward i s r x ..`                  one step more takes it from s to r
+--   `Quiet ws s g a d`                   a step that asks d shows nothing, gets g and answers a
+--   `Logged i r x ..`                    the run has ended as r says
 --
 -- Assumes nothing.
 use Rattle.std.specs.Prelude.{◌≡◌, ℕ, ◌+◌, ◌≤◌, List, length, drop, Some, None, Option, slice_index_or}

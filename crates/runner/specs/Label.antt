@@ -1,9 +1,9 @@
 -- The first touches get the numbers of their lines as origins.
 --
---   `withLine j r`                a first touch's row, with origin j
+--   `with_line j r`                a first touch's row, with origin j
 --   `first_of es j`                the first step of entry j
---   `Openings n T first`          n steps inside a run of T steps, no two of them the same
---   `Labelled n first row row'`   row' has the line j as origin at the step of the j-th of n first touches, and is row elsewhere
+--   `Openings n T first`           n steps inside a run of T steps, no two of them the same
+--   `Labelled n first row row'`    row' has the line j as origin at the step of the j-th of n first touches, and is row elsewhere
 --
 -- Assumes nothing.
 use Rattle.std.specs.Prelude.{◌≡◌, ℕ, ◌<◌, ◌≤◌, List, ◌≢◌, slice_index_or}

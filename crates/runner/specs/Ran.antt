@@ -1,8 +1,8 @@
 -- What a run answers, and what it leaves in the tables.
 --
---   `Answers r e a`                  the refusal e if there is one; otherwise the run a, or want of memory
---   `rowsAfter p primary aux b r rows`      the row table after a run that answers r: the log's rows, and what stays
---   `cellsAfter p primary aux b r cells`    the cell table likewise
+--   `Answers r e a`                          the refusal e if there is one; otherwise the run a, or want of memory
+--   `rows_after p primary aux b r rows`      the row table after a run that answers r: the log's rows, and what stays
+--   `cells_after p primary aux b r cells`    the cell table likewise
 --
 -- A refusal leaves both tables. Assumes nothing.
 use Rattle.std.specs.Prelude.{◌≡◌, ℕ, ◌⊎◌, List, ◌++◌, drop, Some, None, Ok, Err, Option, Result}

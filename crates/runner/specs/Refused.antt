@@ -1,10 +1,10 @@
 -- What keeps a program from being run.
 --
---   `limitBroken l n b`      the first of the length l of the program, the count n of primary words and the bound b
---                            that is outside its limits
---   `firstIllFormed k p`     the place of the first ill-formed instruction, where p begins at place k
---   `refused p ws b r c`     the refusal of a run with r rows and c cell entries lent, if there is one
---   `refusalNumber e`, `refusalValues e`   the number of a refusal, 0 where it has none, and the values that it returns
+--   `limit_broken l n b`                    the first of the length l of the program, the count n of primary words and the bound b
+--                                           that is outside its limits
+--   `first_ill_formed k p`                  the place of the first ill-formed instruction, where p begins at place k
+--   `refused p ws b r c`                    the refusal of a run with r rows and c cell entries lent, if there is one
+--   `refusal_number e`, `refusal_values e`  the number of a refusal, 0 where it has none, and the values that it returns
 --
 -- Assumes nothing.
 use Rattle.std.specs.Prelude.{ℕ, ◌+◌, cond, ◌&&◌, List, [], ◌∷◌, length, Some, None, Option, nat_le}

@@ -1,13 +1,13 @@
 -- The tables of a run after T steps: rows by step, counted from 1, and entries in the order of the cells' first touches.
 -- A first touch has the number of its cell's entry as its origin, until the cells are put in order.
 --
---   `linkTo n r`              a touch's row, linked on to step n
---   `firstTouch c k a`        what the first touch of cell c records, whose entry has number k
---   `laterTouch e a`          what a later touch records of a cell with entry e
---   `openedEntry c t a`       the entry of cell c after its first touch at step t
---   `Sofar ev T n row ent`    the first T rows show the events ev, and keep the link rules with the first n entries as lines
---   `Holds mem n ent`         the first n entries have what memory holds, and it holds 0 elsewhere
---   `Other r`                 a row that is no touch
+--   `link_to n r`              a touch's row, linked on to step n
+--   `first_touch c k a`        what the first touch of cell c records, whose entry has number k
+--   `later_touch e a`          what a later touch records of a cell with entry e
+--   `opened_entry c t a`       the entry of cell c after its first touch at step t
+--   `Sofar ev T n row ent`     the first T rows show the events ev, and keep the link rules with the first n entries as lines
+--   `Holds mem n ent`          the first n entries have what memory holds, and it holds 0 elsewhere
+--   `Other r`                  a row that is no touch
 --
 -- Assumes nothing.
 use Rattle.std.specs.Prelude.{◌≡◌, ℕ, suc, ◌<◌, ◌≤◌, ◌⊎◌, ◌≢◌}

@@ -1,10 +1,10 @@
 -- What a run's tables mean: their entries, all readable, under a head that counts them.
 -- A record in a table is known to be of words only when it is read, so the meaning takes each number as a word.
---   word n                          the number as a word of 32 bits, which is n itself where n is a word
---   instructionWords, rowWords      a record with each of its numbers taken so
+--   word n                           the number as a word of 32 bits, which is n itself where n is a word
+--   instruction_words, row_words     a record with each of its numbers taken so
 --   line_of e                        the opening line that a cell's entry gives
 --   head_of b p ws cs rs             the head, unless a length exceeds 4,294,967,295
---   listed h xs                     the items of a list, which is empty without a head
+--   listed h xs                      the items of a list, which is empty without a head
 --   table_meaning b p ws cs rs       the meaning; layer 2 finds the head missing
 -- Assumes nothing.
 use Rattle.std.specs.Prelude.{ℕ, ◌%◌, ◌^◌, cond, List, [], map, length, Some, None, Ok, Err, Option, nat_lt}

@@ -1,8 +1,8 @@
 // A bound, and a run's program, words and filled entries, as a dossier.
-ghost use Rattle.std.specs.Prelude.{◌≡◌, ◌^◌, ◌<◌, List, length};
+ghost use Rattle.std.specs.Prelude.{◌≡◌, ◌^◌, ◌<◌};
 ghost use Rattle.std.specs.List.{slice_get};
-ghost use Rattle.dossier.specs.Meaning.{Meaning, Made, item_answer, head_answer, instruction_answer, word_answer, line_answer, row_answer};
-ghost use Rattle.table.specs.Held.{word, instruction_words, line_of, row_words, head_of, listed, held, table_meaning};
+ghost use Rattle.dossier.specs.Meaning.{item_answer};
+ghost use Rattle.table.specs.Held.{word, instruction_words, line_of, row_words, head_of, listed, table_meaning};
 
 use dossier::questions::Dossier;
 use dossier::record::{Head, Line, Row};

@@ -2,11 +2,11 @@
 -- It is the run of a machine with memory and an advice tape, which is the auxiliary tape.
 --
 --   `tinyram p primary`             the machine
---   `cpuAt p primary aux i`         its state after i steps
+--   `cpu_at p primary aux i`        its state after i steps
 --   `executed p primary aux i`      the operation of step i + 1
 --   `AcceptsIn p primary aux T`     step T executes `answer 0`, and no step before it answers
---   `rows_of p primary aux T`        the log of T steps: its rows
---   `lines_of p primary aux T`       and its opening lines
+--   `rows_of p primary aux T`       the log of T steps: its rows
+--   `lines_of p primary aux T`      and its opening lines
 --   `LogsRun p primary aux rs ls`   rows and lines are the log of the run up to the step that executes `answer 0`
 --   `Keeps p primary rs ls`         rows and lines keep all rules of links and of steps
 --

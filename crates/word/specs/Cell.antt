@@ -1,8 +1,8 @@
 -- Cells: memory is a function from a cell's address, a multiple of 4, to its word.
---   cell_of k               the address of the cell that holds the byte at address k
+--   cell_of k              the address of the cell that holds the byte at address k
 --   loaded size k n        what a load at k takes from its cell, which holds n
 --   stored size k w n      what a store of w at k leaves in its cell, which held n
---   byte_at m k             the byte of memory m at address k
+--   byte_at m k            the byte of memory m at address k
 --   Bytewise size k w n r  leaving r in the cell stores w at k: byte by byte, and nothing else
 -- Assumes nothing.
 use Rattle.std.specs.Prelude.{◌≡◌, ℕ, ◌+◌, ◌-◌, ◌*◌, ◌/◌, ◌%◌, Bool, cond, List, [], ◌∷◌, ◌==◌, slice_index, slice_set}

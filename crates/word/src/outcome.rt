@@ -3,7 +3,6 @@ ghost use Rattle.std.specs.Prelude.{◌≡◌, ◌^◌, ◌≤◌, unsigned_abs}
 ghost use Rattle.std.proofs.Common.{to_z};
 ghost use Rattle.std.specs.Int.{w32};
 ghost use Rattle.word.specs.Arithmetic.{bitwise, inverted, added, subtracted, multiplied_low, multiplied_high, signed_high, divided, reduced, shifted_left, shifted_right, computed, compared};
-ghost use Rattle.std.specs.Int.Bits.{bit_and, bit_or, bit_xor};
 
 use crate::operator::{Arithmetic, Comparison};
 

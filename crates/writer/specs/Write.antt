@@ -1,9 +1,9 @@
 -- What writing a dossier answers, and what it leaves in the bytes lent to it.
---   first_fault p k xs      refusal 2 for the first unreadable item of a part, counted from k
---   items_answer m          the same over the four parts
---   write_answer m room     the answer: the head's refusal, then refusal 15, then an item's, else the length
---   left answer new old     the bytes after the answer: new and the rest of old, or old where it is a refusal
---   write-number, write-values      the number of a refusal, and the values that it returns
+--   first_fault p k xs          refusal 2 for the first unreadable item of a part, counted from k
+--   items_answer m              the same over the four parts
+--   write_answer m room         the answer: the head's refusal, then refusal 15, then an item's, else the length
+--   left answer new old         the bytes after the answer: new and the rest of old, or old where it is a refusal
+--   write_number, write_values  the number of a refusal, and the values that it returns
 use Rattle.std.specs.Prelude.{ℕ, ◌+◌, cond, List, [], ◌∷◌, ◌++◌, drop, Ok, Err, Result, nat_le}
 use Rattle.dossier.specs.declared.record.Head.{Head}
 use Rattle.dossier.specs.declared.refusal.Part.{Part}
