@@ -12,7 +12,7 @@ import sys
 
 NAME = re.compile(r"(?<![\w'-])[A-Za-z][A-Za-z0-9_'-]*(?![\w'-])")
 DEFINED = re.compile(
-    r"^\s*(?:(?:pub|abbrev|unfoldable)\s+)*(?:data|record)?\s*(?:pub\s+)?([A-Za-z][A-Za-z0-9_'-]*)\s*:(?!=)"
+    r"^\s*(?:(?:pub|abbrev|unfoldable)\s+)*(?:(?:data|record)\s+)?(?:pub\s+)?([A-Za-z][A-Za-z0-9_'-]*)\s*:(?!=)"
 )
 # where the plain spelling is taken in a file that uses both
 OTHER = {

@@ -18,7 +18,7 @@ use Rattle.rules.specs.declared.call.Advanced.TheVariants as advanced-case
 use Rattle.rules.specs.declared.call.Outcome.TheVariants as outcome
 use Rattle.rules.specs.Units.{units}
 use Rattle.rules.specs.Course.{in_limits, stopped, no_head, begun_by, begun, left, told, closing_by, closing, after_from, after, amount, taken_from, taken_by, advance_answer}
-use Rattle.rules.specs.Laws.{recordOr, program, primary, lines, rows, every_unit, Within, HeadWithin, Genuine, Closes, Acceptance, Advancing}
+use Rattle.rules.specs.Laws.{record_or, program, primary, lines, rows, every_unit, Within, HeadWithin, Genuine, Closes, Acceptance, Advancing}
 use Rattle.run_log.specs.Words.{Exactly}
 use Rattle.rules.proofs.Whole.{whole, is_whole}
 use Rattle.rules.proofs.Taking.{no_none, run, reached}
@@ -51,7 +51,7 @@ limits_in h w =
 
 -- RECORDS THAT FIT
 
-pub fit_records : {R : Type 0} (f : R → List ℕ) (d : R) (xs : List (Item R)) → Each (ItemFits f) xs → Each IsRecord xs → Each (Fit f) (map (recordOr d) xs)
+pub fit_records : {R : Type 0} (f : R → List ℕ) (d : R) (xs : List (Item R)) → Each (ItemFits f) xs → Each IsRecord xs → Each (Fit f) (map (record_or d) xs)
 fit_records f d [] a b = tt
 fit_records f d (Ok r ∷ xs) a b = (a.0, fit_records f d xs a.1 b.1)
 fit_records f d (Err l ∷ xs) a b = absurd b.0

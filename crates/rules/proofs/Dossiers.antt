@@ -14,7 +14,7 @@ use Rattle.tinyram.proofs.Run.{program_logged, program_unique}
 use Rattle.tinyram.proofs.Kept.{program_words, program_counts}
 use Rattle.rules.specs.declared.call.Call.TheVariants.{Advance}
 use Rattle.rules.specs.Course.{amount, taken_by}
-use Rattle.rules.specs.Laws.{recordOr, program, primary, lines, rows, bound, every_unit, Formed, Limits, Within, HeadWithin, Genuine, Accepted, Of, Existence, Uniqueness}
+use Rattle.rules.specs.Laws.{record_or, program, primary, lines, rows, bound, every_unit, Formed, Limits, Within, HeadWithin, Genuine, Accepted, Of, Existence, Uniqueness}
 use Rattle.rules.proofs.Whole.{whole, all_ok, Headed, headed}
 use Rattle.rules.proofs.Acceptance.{acceptance, advancing}
 
@@ -23,7 +23,7 @@ genuine_of m mk a = ((acceptance m mk a.0).accepted.0 a.1).1
 
 -- LISTS OF READABLE ITEMS
 
-map_back : {R : Type 0} (d : R) (xs : List R) → map (recordOr d) (map Ok xs) ≡ xs
+map_back : {R : Type 0} (d : R) (xs : List R) → map (record_or d) (map Ok xs) ≡ xs
 map_back d [] = refl
 map_back d (x ∷ xs) = ap (λ ys. x ∷ ys) (map_back d xs)
 
@@ -61,7 +61,7 @@ head_counts m mk h e =
     let b = ap bound e in
     λ k. record { instructions = sym i k; words = sym w k; lines = sym l k; rows = sym r k; bound = sym b k }
 
-same_list : {R : Type 0} (d : R) (xs ys : List (Item R)) → Each IsRecord xs → Each IsRecord ys → map (recordOr d) xs ≡ map (recordOr d) ys → xs ≡ ys
+same_list : {R : Type 0} (d : R) (xs ys : List (Item R)) → Each IsRecord xs → Each IsRecord ys → map (record_or d) xs ≡ map (record_or d) ys → xs ≡ ys
 same_list d xs ys a b e = all_ok d xs a ∙ ap (map Ok) e ∙ sym (all_ok d ys b)
 
 same_head : (m m' : Meaning) → Made m → Made m' → Headed m → Headed m' → m.instructions ≡ m'.instructions → m.words ≡ m'.words
@@ -79,7 +79,7 @@ uniqueness m m' mk mk' a a' s =
     let g' = genuine_of m' mk' a' in
     let (aux, wa, logs) = g.run in
     let (aux', wa', logs') = g'.run in
-    let moved-logs = relog aux' (ap (map (recordOr _)) (sym s.program)) (ap (map (recordOr 0)) (sym s.primary)) refl refl logs' in
+    let moved-logs = relog aux' (ap (map (record_or _)) (sym s.program)) (ap (map (record_or 0)) (sym s.primary)) refl refl logs' in
     let (er, el) = program_unique (program m) (primary m) aux aux' (rows m) (rows m') (lines m) (lines m') logs moved-logs s.advice in
     let r = same_list _ m.rows m'.rows g.readable.rows g'.readable.rows er in
     let l = same_list _ m.lines m'.lines g.readable.lines g'.readable.lines el in
@@ -147,8 +147,8 @@ some_tape p ws B m o a =
     let (aux, wa, logs) = g.run in
     let h = headed m g.readable in
     let w : Within h.head = subst HeadWithin h.is g.limits in
-    let l = relog aux (ap (map (recordOr _)) o.program ∙ map_back _ p) (ap (map (recordOr 0)) o.primary ∙ map_back 0 ws) refl refl logs in
-    let c : length (rows m) ≡ length m.rows = length-map m.rows (recordOr Plain) in
+    let l = relog aux (ap (map (record_or _)) o.program ∙ map_back _ p) (ap (map (record_or 0)) o.primary ∙ map_back 0 ws) refl refl logs in
+    let c : length (rows m) ≡ length m.rows = length-map m.rows (record_or Plain) in
     let d = o.made.rows.counts ∙ ap (λ x. counted x (λ y. y.rows)) h.is in
     let b = sym (ap bound h.is) ∙ o.bound in
     let r = w.rows in

@@ -9,7 +9,7 @@ use Rattle.dossier.specs.declared.record.Row.TheVariants.{Plain}
 use Rattle.dossier.specs.declared.refusal.Part.{Part}
 use Rattle.dossier.specs.Meaning.{Item, Meaning, Readable, IsRecord, Each, item_answer, row_answer}
 use Rattle.run_log.specs.Rules.{row_at}
-use Rattle.rules.specs.Laws.{recordOr, program, primary, lines, rows}
+use Rattle.rules.specs.Laws.{record_or, program, primary, lines, rows}
 
 -- the dossier of these records
 abbrev pub whole : Head → List Instruction → List ℕ → List Line → List Row → Meaning
@@ -27,7 +27,7 @@ row_read h p ws ls rs zero a b = absurd (omega arith)
 row_read h p ws ls rs (suc i) a b = let e : suc i - 1 ≡ i = omega arith in rw e (answer_at _ rs i i Plain (omega arith))
 
 -- a list of records is the list of their items
-pub all_ok : {R : Type 0} (d : R) (xs : List (Item R)) → Each IsRecord xs → xs ≡ map Ok (map (recordOr d) xs)
+pub all_ok : {R : Type 0} (d : R) (xs : List (Item R)) → Each IsRecord xs → xs ≡ map Ok (map (record_or d) xs)
 all_ok d [] e = refl
 all_ok d (Ok r ∷ xs) e = ap (λ ys. Ok r ∷ ys) (all_ok d xs e.1)
 all_ok d (Err l ∷ xs) e = absurd e.0

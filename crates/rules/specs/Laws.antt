@@ -29,21 +29,21 @@ use Rattle.rules.specs.Course.{after, taken_by, advance_answer, closing}
 -- THE RECORDS OF A DOSSIER
 
 -- what stands for an item that is unreadable is of no account: the laws speak of dossiers that are readable throughout
-abbrev pub recordOr : {R : Type 0} → R → Item R → R
-recordOr d (Ok r) = r
-recordOr d (Err l) = d
+abbrev pub record_or : {R : Type 0} → R → Item R → R
+record_or d (Ok r) = r
+record_or d (Err l) = d
 
 abbrev pub program : Meaning → List Instruction
-program m = map (recordOr answer_one) m.instructions
+program m = map (record_or answer_one) m.instructions
 
 abbrev pub primary : Meaning → List ℕ
-primary m = map (recordOr 0) m.words
+primary m = map (record_or 0) m.words
 
 abbrev pub lines : Meaning → List Line
-lines m = map (recordOr (record { cell = 0; step = 0 })) m.lines
+lines m = map (record_or (record { cell = 0; step = 0 })) m.lines
 
 abbrev pub rows : Meaning → List Row
-rows m = map (recordOr Plain) m.rows
+rows m = map (record_or Plain) m.rows
 
 abbrev pub bound : Item Head → ℕ
 bound (Ok h) = h.bound

@@ -98,11 +98,11 @@ module _ (initial : ℕ → ℕ) (es : List Event) where
       (λ b. (record { shown = e; before = holds_of es c t initial; next = after_of es c t }, last_before c t (eqb-false (touch_before es c t) 0 b)))
 
   -- what records a step is the row of the step
-  records-row : (t : ℕ) (r : Row) → Records initial es (log_lines es) t r → r ≡ row_of initial es t (event_at es t)
-  records-row t Plain h = rw h
-  records-row t (Advice w) h = rw h
-  records-row t AdviceEnd h = rw h
-  records-row t (FromLine x) h =
+  records_row : (t : ℕ) (r : Row) → Records initial es (log_lines es) t r → r ≡ row_of initial es t (event_at es t)
+  records_row t Plain h = rw h
+  records_row t (Advice w) h = rw h
+  records_row t AdviceEnd h = rw h
+  records_row t (FromLine x) h =
       let c = x.cell in
       let none : touch_before es c t ≡ 0 = sym (before_is es c t 0 (inl (refl, h.1))) in
       let held : x.before ≡ memory initial es c t = holds_is es c t initial x.before h.0.before in
@@ -110,7 +110,7 @@ module _ (initial : ℕ → ℕ) (es : List Event) where
       sym (line_of_lem (log_lines es) (log_opens es).rising x.origin h.2.0) ∙ ap (line_of (log_lines es)) h.2.1 in
       let on : x.next ≡ touch_after es c t = next_is es c t x.next h.0.next in
       rw (h.0.shown, none) (λ i. FromLine (record { cell = c; before = held i; after = x.after; origin = from i; next = on i }))
-  records-row t (FromStep x) h =
+  records_row t (FromStep x) h =
       let c = x.cell in
       let i = touch_inside es c x.origin h.1.hit in
       let from : x.origin ≡ touch_before es c t = before_is es c t x.origin (inr h.1) in
@@ -126,7 +126,7 @@ module _ (initial : ℕ → ℕ) (es : List Event) where
   }
 
   pub rows_are : (rs : List Row) → InRows initial es (log_lines es) rs → rs ≡ log_rows initial es
-  rows_are rs h = same_rows initial es rs h.count (λ t a b. records-row t (row_at rs t) (h.each t a b))
+  rows_are rs h = same_rows initial es rs h.count (λ t a b. records_row t (row_at rs t) (h.each t a b))
 
 pub lines_are : (es : List Event) (ls : List Line) → Opens es ls → ls ≡ log_lines es
 lines_are es ls o = same_opens es ls (log_lines es) o (log_opens es)
