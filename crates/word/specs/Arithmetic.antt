@@ -4,7 +4,8 @@
 --   compared by x a   the flag that `op ri, A` sets, at [ri] = x and [A] = a
 -- Words are numbers below 2 ^ 32; `to_z w32` takes one as signed, by two's complement.
 -- Assumes nothing.
-use Rattle.std.specs.Prelude.{ℕ, ◌+◌, ◌-◌, ◌*◌, ◌/◌, ◌%◌, ◌^◌, Bool, cond, ◌||◌, ℤ, pos, negsuc, ◌*ℤ◌, ◌==◌, bit_and, bit_or, bit_xor, int_le, int_lt, nat_le, nat_lt, unsigned_abs}
+use Rattle.std.specs.Prelude.{ℕ, ◌+◌, ◌-◌, ◌*◌, ◌/◌, ◌%◌, ◌^◌, Bool, cond, ◌||◌, ℤ, pos, negsuc, ◌*ℤ◌, ◌==◌, bit_and, bit_or, bit_xor, int_le, int_lt, nat_le, nat_lt, unsigned_abs, Option, is_none}
+use Rattle.std.specs.Option.{unwrap_or}
 use Rattle.std.proofs.Common.{to_z}
 use Rattle.std.specs.Int.{w32}
 use Rattle.word.specs.declared.operator.Arithmetic.{Arithmetic}
@@ -46,6 +47,10 @@ beyond_signed p = int_lt p (negsuc (2 ^ 31 - 1)) || int_le (pos (2 ^ 31)) p
 
 abbrev pub signed_high : ℕ → ℕ → Outcome
 signed_high x a = record { value = sign_magnitude (to_z w32 x *ℤ to_z w32 a); flag = beyond_signed (to_z w32 x *ℤ to_z w32 a) }
+
+-- what a division stores: where it has no result, 0, with the flag
+abbrev pub or_zero : Option ℕ → Outcome
+or_zero q = record { value = unwrap_or q 0; flag = is_none q }
 
 -- quotient and remainder; both are 0, and the flag is 1, at the divisor 0
 abbrev pub divided : ℕ → ℕ → Outcome

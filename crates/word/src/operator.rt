@@ -1,7 +1,7 @@
 // The operators of TinyRAM's instructions on two words.
 
 // What `op ri, rj, A` computes from the word in `rj` and from `A`.
-#[derive(Clone, Copy)]
+#[derive(Clone, Copy, PartialEq, Eq, Debug)]
 pub enum Arithmetic {
     And,
     Or,
@@ -18,7 +18,7 @@ pub enum Arithmetic {
 }
 
 // What `op ri, A` compares.
-#[derive(Clone, Copy)]
+#[derive(Clone, Copy, PartialEq, Eq, Debug)]
 pub enum Comparison {
     Equal,
     Above,

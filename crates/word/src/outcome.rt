@@ -1,13 +1,13 @@
 // The operators on words: what is stored, and the flag.
-ghost use Rattle.std.specs.Prelude.{◌≡◌, ◌^◌, ◌≤◌, unsigned_abs};
+ghost use Rattle.std.specs.Prelude.{◌≡◌, ◌*◌, ◌/◌, ◌%◌, ◌^◌, ◌≤◌, pos, int_lt, unsigned_abs};
 ghost use Rattle.std.proofs.Common.{to_z};
 ghost use Rattle.std.specs.Int.{w32};
-ghost use Rattle.word.specs.Arithmetic.{bitwise, inverted, added, subtracted, multiplied_low, multiplied_high, signed_high, divided, reduced, shifted_left, shifted_right, computed, compared};
+ghost use Rattle.word.specs.Arithmetic.{bitwise, inverted, added, subtracted, multiplied_low, multiplied_high, signed_high, or_zero, shifted_left, shifted_right, computed, compared};
 
 use crate::operator::{Arithmetic, Comparison};
 
 // The word that an instruction stores, and the flag that it sets.
-#[derive(Clone, Copy)]
+#[derive(Clone, Copy, PartialEq, Eq, Debug)]
 pub struct Outcome {
     pub value: u32,
     pub flag: bool,
@@ -33,29 +33,39 @@ fn add(x: u32, a: u32) -> Outcome
 fn sub(x: u32, a: u32) -> Outcome
     ensures { result ≡ subtracted x a }
 {
-    Outcome {
-        value: x.wrapping_sub(a),
-        flag: x < a,
-    }
+    let (value, flag) = x.overflowing_sub(a);
+    Outcome { value, flag }
+}
+
+// The low and the high word of the unsigned product.
+fn halves(x: u32, a: u32) -> (u32, u32)
+    ensures low { result.0 ≡ (x * a) % 2 ^ 32 }
+    ensures high { result.1 ≡ (x * a) / 2 ^ 32 }
+{
+    let product = u64::from(x) * u64::from(a);
+    (
+        (product % 0x1_0000_0000) as u32,
+        (product / 0x1_0000_0000) as u32,
+    )
 }
 
 fn mull(x: u32, a: u32) -> Outcome
     ensures { result ≡ multiplied_low x a }
 {
-    let product = u64::from(x) * u64::from(a);
+    let (low, high) = halves(x, a);
     Outcome {
-        value: (product % 0x1_0000_0000) as u32,
-        flag: product >= 0x1_0000_0000,
+        value: low,
+        flag: high != 0,
     }
 }
 
 fn umulh(x: u32, a: u32) -> Outcome
     ensures { result ≡ multiplied_high x a }
 {
-    let product = u64::from(x) * u64::from(a);
+    let (_, high) = halves(x, a);
     Outcome {
-        value: (product / 0x1_0000_0000) as u32,
-        flag: product >= 0x1_0000_0000,
+        value: high,
+        flag: high != 0,
     }
 }
 
@@ -64,11 +74,13 @@ fn magnitude(x: u32) -> u32
     ensures value { result ≡ unsigned_abs (to_z w32 x) }
     ensures bound { result ≤ 2 ^ 31 }
 {
-    if x < 0x8000_0000 {
-        x
-    } else {
-        0xffff_ffff - x + 1
-    }
+    x.cast_signed().unsigned_abs()
+}
+
+fn is_negative(x: u32) -> bool
+    ensures { result ≡ int_lt (to_z w32 x) (pos 0) }
+{
+    x.cast_signed().is_negative()
 }
 
 // A signed product by its sign and its size: the lowest signed word is as large as no other.
@@ -77,7 +89,7 @@ fn smulh(x: u32, a: u32) -> Outcome
 {
     let product = u64::from(magnitude(x)) * u64::from(magnitude(a));
     let high = (product / 0x1_0000_0000) as u32;
-    if (x < 0x8000_0000) == (a < 0x8000_0000) || product == 0 {
+    if is_negative(x) == is_negative(a) || product == 0 {
         Outcome {
             value: high,
             flag: product >= 0x8000_0000,
@@ -90,21 +102,13 @@ fn smulh(x: u32, a: u32) -> Outcome
     }
 }
 
-fn udiv(x: u32, a: u32) -> Outcome
-    ensures { result ≡ divided x a }
+// Where a division has no result, 0 and the flag.
+fn or_zero(value: Option<u32>) -> Outcome
+    ensures { result ≡ or_zero value }
 {
     Outcome {
-        value: x.checked_div(a).unwrap_or(0),
-        flag: a == 0,
-    }
-}
-
-fn umod(x: u32, a: u32) -> Outcome
-    ensures { result ≡ reduced x a }
-{
-    Outcome {
-        value: x.checked_rem(a).unwrap_or(0),
-        flag: a == 0,
+        value: value.unwrap_or(0),
+        flag: value.is_none(),
     }
 }
 
@@ -112,7 +116,7 @@ fn shl(x: u32, a: u32) -> Outcome
     ensures { result ≡ shifted_left x a }
 {
     Outcome {
-        value: if a < 32 { x << a } else { 0 },
+        value: x.checked_shl(a).unwrap_or(0),
         flag: x >= 0x8000_0000,
     }
 }
@@ -121,7 +125,7 @@ fn shr(x: u32, a: u32) -> Outcome
     ensures { result ≡ shifted_right x a }
 {
     Outcome {
-        value: if a < 32 { x >> a } else { 0 },
+        value: x.checked_shr(a).unwrap_or(0),
         flag: x % 2 == 1,
     }
 }
@@ -139,8 +143,8 @@ pub fn compute(by: Arithmetic, x: u32, a: u32) -> Outcome
         Arithmetic::Mull => mull(x, a),
         Arithmetic::Umulh => umulh(x, a),
         Arithmetic::Smulh => smulh(x, a),
-        Arithmetic::Udiv => udiv(x, a),
-        Arithmetic::Umod => umod(x, a),
+        Arithmetic::Udiv => or_zero(x.checked_div(a)),
+        Arithmetic::Umod => or_zero(x.checked_rem(a)),
         Arithmetic::Shl => shl(x, a),
         Arithmetic::Shr => shr(x, a),
     }
