@@ -107,7 +107,7 @@ def case(text, x, y, flag, got):
     address = [o.strip() for o in text.split(None, 1)[1].split(",")]
     a = address[0] if name.startswith(("store", "answer")) else address[-1]
     a = machine.registers[int(a[1:])] if a.startswith("r") else int(a) % 2**32
-    asks = (0, 0)
+    asks = "Nothing"
     if name.startswith(("store", "load")):
         for k in range(4):
             machine.memory[a // 4 * 4 + k] = got >> (8 * k) & 255
@@ -115,11 +115,11 @@ def case(text, x, y, flag, got):
         machine.tapes[a].append(got)
     answer = machine.step()
     if machine.touched:
-        asks = (1, machine.touched[0])
+        asks = "Cell(%d)" % machine.touched[0]
     elif name == "read" and a < 2:
-        asks = (2 + a, 0)
+        asks = ["Primary", "Advice"][a]
     elif answer is not None:
-        asks = (4, answer)
+        asks = "Halt(%d)" % answer
     leaves = machine.touched[2] if machine.touched else (got or 0)
     unchanged = [0, x, y] + [0] * 12
     assert machine.registers[:3] + machine.registers[4:] == unchanged, text
@@ -127,7 +127,7 @@ def case(text, x, y, flag, got):
     fields = [
         ("text", '"%s"' % text), ("first", "0x%s_%s" % (h[:4], h[4:])), ("second", second), ("x", x), ("y", y),
         ("flag", "true" if flag else "false"), ("got", "None" if got is None else "Some(%d)" % got),
-        ("asks", "(%d, %d)" % asks), ("leaves", leaves), ("result", machine.registers[3]),
+        ("asks", "Demand::" + asks), ("leaves", leaves), ("result", machine.registers[3]),
         ("flag_after", "true" if machine.flag else "false"), ("pc_after", machine.pc), ("place_after", machine.places[0]),
     ]
     return "    Case {\n" + "".join("        %s: %s,\n" % f for f in fields) + "    },\n"
@@ -137,7 +137,8 @@ def main():
     folder = os.path.join(os.path.dirname(__file__), "..", "crates", "machine_cases", "src")
     for name, cases in GROUPS.items():
         with open(os.path.join(folder, name + ".rt"), "w") as out:
-            out.write("// %s\n// Made by tools/cases.py.\nuse crate::case::Case;\n\n" % TITLES[name])
+            out.write("// %s\n// Made by tools/cases.py.\n" % TITLES[name])
+            out.write("use crate::case::Case;\nuse machine::step::Demand;\n\n")
             out.write("pub const CASES: [Case; %d] = [\n" % len(cases))
             out.write("".join(case(*c) for c in cases))
             out.write("];\n")

@@ -8,7 +8,7 @@ use crate::operation::{Operand, Operation};
 
 // From the top, `first` holds the opcode (5 bits), the immediate bit, the destination
 // and the source register (4 bits each) and 18 bits of padding; `second` holds the operand.
-#[derive(Clone, Copy, PartialEq, Debug)]
+#[derive(Clone, Copy, PartialEq, Eq, Debug)]
 pub struct Instruction {
     pub first: u32,
     pub second: u32,

@@ -7,7 +7,7 @@ use word::cell::Size;
 use word::operator::{Arithmetic, Comparison};
 
 // An instruction without its operands.
-#[derive(Clone, Copy)]
+#[derive(Clone, Copy, PartialEq, Eq, Debug)]
 pub enum Mnemonic {
     Compute(Arithmetic),
     Not,

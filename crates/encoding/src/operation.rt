@@ -8,7 +8,7 @@ use word::cell::Size;
 use word::operator::{Arithmetic, Comparison};
 
 // When a jump takes place.
-#[derive(Clone, Copy)]
+#[derive(Clone, Copy, PartialEq, Eq, Debug)]
 pub enum Condition {
     Always,
     IfFlag,
@@ -16,14 +16,14 @@ pub enum Condition {
 }
 
 // `A`: a register's number, or the word itself.
-#[derive(Clone, Copy)]
+#[derive(Clone, Copy, PartialEq, Eq, Debug)]
 pub enum Operand {
     Register(u8),
     Immediate(u32),
 }
 
 // The 29 instructions, grouped by what they do. Registers go by their numbers.
-#[derive(Clone, Copy)]
+#[derive(Clone, Copy, PartialEq, Eq, Debug)]
 pub enum Operation {
     Compute {
         by: Arithmetic,

@@ -5,7 +5,7 @@ ghost use Rattle.machine.specs.State.{start, register_of, value_of, holds, advan
 use encoding::operation::{Condition, Operand};
 
 // The program counter, the registers, the flag, and how many primary words were read.
-#[derive(Clone, Copy)]
+#[derive(Clone, Copy, PartialEq, Eq, Debug)]
 pub struct Cpu {
     pub pc: u32,
     pub registers: [u32; 16],
@@ -30,11 +30,7 @@ impl Cpu {
     pub(crate) fn register(&self, i: u8) -> u32
         ensures { result ≡ register_of self.now i }
     {
-        if i < 16 {
-            self.registers[usize::from(i)]
-        } else {
-            0
-        }
+        self.registers.get(usize::from(i)).copied().unwrap_or(0)
     }
 
     // The word that an operand stands for.

@@ -10,7 +10,7 @@ use word::cell::{load, store};
 use word::outcome::{Outcome, compare, compute, invert};
 
 // What a step asks of the outside.
-#[derive(Clone, Copy)]
+#[derive(Clone, Copy, PartialEq, Eq, Debug)]
 pub enum Demand {
     Nothing,
     // the cell at this address, a multiple of 4
@@ -23,16 +23,18 @@ pub enum Demand {
     Halt(u32),
 }
 
+// What the machine executes where there is no instruction.
+const ANSWER_ONE: Operation = Operation::Answer {
+    value: Operand::Immediate(1),
+};
+
 // The operation of instruction number `pc`: past the program it is `answer 1`.
 pub fn fetch(program: &[Instruction], pc: u32) -> Operation
     ensures { result ≡ fetched program.now pc }
 {
-    match program.get(pc as usize) {
-        Some(instruction) => instruction.operation(),
-        None => Operation::Answer {
-            value: Operand::Immediate(1),
-        },
-    }
+    program
+        .get(pc as usize)
+        .map_or(ANSWER_ONE, |instruction| instruction.operation())
 }
 
 // What the operation asks of the outside.

@@ -6,7 +6,7 @@ use std::process::Abort;
 use std::test::*;
 
 // The state before has pc 5, r1 = x, r2 = y, r3 = 99, the flag, and four primary words read; all else is 0.
-// `asks` is the demand by number, with its cell or answer; `result` is r3 after the step.
+// `result` is r3 after the step.
 pub struct Case {
     pub text: &'static str,
     pub first: u32,
@@ -15,22 +15,12 @@ pub struct Case {
     pub y: u32,
     pub flag: bool,
     pub got: Option<u32>,
-    pub asks: (u8, u32),
+    pub asks: Demand,
     pub leaves: u32,
     pub result: u32,
     pub flag_after: bool,
     pub pc_after: u32,
     pub place_after: u32,
-}
-
-fn numbered(demand: Demand) -> (u8, u32) {
-    match demand {
-        Demand::Nothing => (0, 0),
-        Demand::Cell(cell) => (1, cell),
-        Demand::Primary => (2, 0),
-        Demand::Advice => (3, 0),
-        Demand::Halt(answer) => (4, answer),
-    }
 }
 
 impl Case {
@@ -43,7 +33,7 @@ impl Case {
     }
 
     // Whether the step does what is expected, in the whole state.
-    pub fn check(&self, rt: &impl Abort) -> Result<(), Fail> {
+    fn check(&self, rt: &impl Abort) -> Result<(), Fail> {
         let cpu = Cpu {
             pc: 5,
             registers: self.registers(99),
@@ -56,23 +46,32 @@ impl Case {
         };
         let operation = instruction.decode().ok_or("ill formed")?;
         assert_eq!(rt; operation.encode(), Some(instruction), "{}", self.text);
-        assert_eq!(rt; numbered(asks(operation, &cpu)), self.asks, "{}", self.text);
+        assert_eq!(rt; asks(operation, &cpu), self.asks, "{}", self.text);
         assert_eq!(rt;
             after(operation, &cpu, self.got.unwrap_or(0)),
             self.leaves,
             "{}",
             self.text
         );
-        let next = execute(cpu, operation, self.got);
+        let expected = Cpu {
+            pc: self.pc_after,
+            registers: self.registers(self.result),
+            flag: self.flag_after,
+            place: self.place_after,
+        };
         assert_eq!(rt;
-            next.registers,
-            self.registers(self.result),
+            execute(cpu, operation, self.got),
+            expected,
             "{}",
             self.text
         );
-        assert_eq!(rt; next.flag, self.flag_after, "{}", self.text);
-        assert_eq!(rt; next.pc, self.pc_after, "{}", self.text);
-        assert_eq!(rt; next.place, self.place_after, "{}", self.text);
         Ok(())
     }
+}
+
+pub fn check_all(rt: &impl Abort, cases: &[Case]) -> Result<(), Fail> {
+    for case in cases {
+        case.check(rt)?;
+    }
+    Ok(())
 }

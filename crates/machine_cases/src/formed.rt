@@ -48,12 +48,9 @@ fn formed(rt: HostRuntime) -> Result<(), Fail> {
     Ok(())
 }
 
-fn answer_of(operation: Operation) -> Option<u32> {
-    match operation {
-        Operation::Answer {
-            value: Operand::Immediate(word),
-        } => Some(word),
-        _ => None,
+fn answer(word: u32) -> Operation {
+    Operation::Answer {
+        value: Operand::Immediate(word),
     }
 }
 
@@ -70,11 +67,11 @@ fn past_the_program(rt: HostRuntime) -> Result<(), Fail> {
             second: 0,
         },
     ];
-    assert_eq!(rt; answer_of(fetch(&program, 0)), Some(0));
-    assert_eq!(rt; answer_of(fetch(&program, 1)), Some(1));
-    assert_eq!(rt; answer_of(fetch(&program, 2)), Some(1));
-    assert_eq!(rt; answer_of(fetch(&program, 4294967295)), Some(1));
-    assert_eq!(rt; answer_of(fetch(&[], 0)), Some(1));
+    assert_eq!(rt; fetch(&program, 0), answer(0));
+    assert_eq!(rt; fetch(&program, 1), answer(1));
+    assert_eq!(rt; fetch(&program, 2), answer(1));
+    assert_eq!(rt; fetch(&program, 4294967295), answer(1));
+    assert_eq!(rt; fetch(&[], 0), answer(1));
     Ok(())
 }
 

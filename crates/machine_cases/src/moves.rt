@@ -1,6 +1,7 @@
 // Moves: the flag stays.
 // Made by tools/cases.py.
 use crate::case::Case;
+use machine::step::Demand;
 
 pub const CASES: [Case; 6] = [
     Case {
@@ -11,7 +12,7 @@ pub const CASES: [Case; 6] = [
         y: 0,
         flag: true,
         got: None,
-        asks: (0, 0),
+        asks: Demand::Nothing,
         leaves: 0,
         result: 5,
         flag_after: true,
@@ -26,7 +27,7 @@ pub const CASES: [Case; 6] = [
         y: 0,
         flag: false,
         got: None,
-        asks: (0, 0),
+        asks: Demand::Nothing,
         leaves: 0,
         result: 4294967295,
         flag_after: false,
@@ -41,7 +42,7 @@ pub const CASES: [Case; 6] = [
         y: 0,
         flag: true,
         got: None,
-        asks: (0, 0),
+        asks: Demand::Nothing,
         leaves: 0,
         result: 99,
         flag_after: true,
@@ -56,7 +57,7 @@ pub const CASES: [Case; 6] = [
         y: 0,
         flag: true,
         got: None,
-        asks: (0, 0),
+        asks: Demand::Nothing,
         leaves: 0,
         result: 5,
         flag_after: true,
@@ -71,7 +72,7 @@ pub const CASES: [Case; 6] = [
         y: 0,
         flag: false,
         got: None,
-        asks: (0, 0),
+        asks: Demand::Nothing,
         leaves: 0,
         result: 99,
         flag_after: false,
@@ -86,7 +87,7 @@ pub const CASES: [Case; 6] = [
         y: 0,
         flag: true,
         got: None,
-        asks: (0, 0),
+        asks: Demand::Nothing,
         leaves: 0,
         result: 0,
         flag_after: true,

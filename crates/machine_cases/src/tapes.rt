@@ -1,6 +1,7 @@
 // Reads of the primary tape, the auxiliary tape and a tape that is not there.
 // Made by tools/cases.py.
 use crate::case::Case;
+use machine::step::Demand;
 
 pub const CASES: [Case; 8] = [
     Case {
@@ -11,7 +12,7 @@ pub const CASES: [Case; 8] = [
         y: 0,
         flag: true,
         got: Some(7),
-        asks: (2, 0),
+        asks: Demand::Primary,
         leaves: 7,
         result: 7,
         flag_after: false,
@@ -26,7 +27,7 @@ pub const CASES: [Case; 8] = [
         y: 0,
         flag: false,
         got: None,
-        asks: (2, 0),
+        asks: Demand::Primary,
         leaves: 0,
         result: 0,
         flag_after: true,
@@ -41,7 +42,7 @@ pub const CASES: [Case; 8] = [
         y: 0,
         flag: true,
         got: Some(4294967295),
-        asks: (2, 0),
+        asks: Demand::Primary,
         leaves: 4294967295,
         result: 4294967295,
         flag_after: false,
@@ -56,7 +57,7 @@ pub const CASES: [Case; 8] = [
         y: 0,
         flag: true,
         got: Some(7),
-        asks: (3, 0),
+        asks: Demand::Advice,
         leaves: 7,
         result: 7,
         flag_after: false,
@@ -71,7 +72,7 @@ pub const CASES: [Case; 8] = [
         y: 0,
         flag: false,
         got: None,
-        asks: (3, 0),
+        asks: Demand::Advice,
         leaves: 0,
         result: 0,
         flag_after: true,
@@ -86,7 +87,7 @@ pub const CASES: [Case; 8] = [
         y: 0,
         flag: true,
         got: Some(0),
-        asks: (3, 0),
+        asks: Demand::Advice,
         leaves: 0,
         result: 0,
         flag_after: false,
@@ -101,7 +102,7 @@ pub const CASES: [Case; 8] = [
         y: 0,
         flag: false,
         got: None,
-        asks: (0, 0),
+        asks: Demand::Nothing,
         leaves: 0,
         result: 0,
         flag_after: true,
@@ -116,7 +117,7 @@ pub const CASES: [Case; 8] = [
         y: 0,
         flag: false,
         got: None,
-        asks: (0, 0),
+        asks: Demand::Nothing,
         leaves: 0,
         result: 0,
         flag_after: true,

@@ -1,7 +1,0 @@
--- Past the program stands `answer 1`.
-use Rattle.std.proofs.Common.{rules}
-use Rattle.std.proofs.lemmas.List.{get_or_past}
-use Rattle.machine.proofs.step.fetch.Goals as goal
-
-pub returns-in-None : goal.returns-in-None
-returns-in-None c = search (rules, get_or_past)
