@@ -1,9 +1,10 @@
 // A bound, and a run's program, words and filled entries, as a dossier.
-ghost use Rattle.std.specs.Prelude.{◌≡◌, ◌^◌, ◌<◌};
+ghost use Rattle.std.specs.Prelude.{◌≡◌, ◌^◌, ◌<◌, map};
 ghost use Rattle.std.specs.List.{slice_get};
 ghost use Rattle.dossier.specs.Meaning.{item_answer};
-ghost use Rattle.table.specs.Held.{word, instruction_words, line_of, row_words, head_of, listed, table_meaning};
+ghost use Rattle.table.specs.Held.{head_of, listed, table_meaning};
 
+use crate::entry::Entry;
 use dossier::questions::Dossier;
 use dossier::record::{Head, Line, Row};
 use dossier::refusal::{Fault, Part, Refusal};
@@ -52,34 +53,27 @@ impl<'a> Dossier for TableDossier<'a> {
     ghost rule = { λ d. (d.bound < 2 ^ 32) × (d.head ≡ head_of d.bound d.program.now d.primary.now d.cells.now d.rows.now) };
 
     fn head(&mut self) -> Result<Head, Refusal> {
-        match self.head {
-            Some(head) => Ok(head),
-            None => Err(Refusal::Unreadable(Fault {
-                part: Part::Head,
-                place: 0,
-                layer: LAYER,
-            })),
-        }
+        self.head.ok_or(Refusal::Unreadable(Fault {
+            part: Part::Head,
+            place: 0,
+            layer: LAYER,
+        }))
     }
 
     fn instruction(&mut self, place: u32) -> Result<Instruction, Refusal> {
-        let found = item(self.head, self.program, Part::Instruction, place)?;
-        Ok(instruction_words(found))
+        item(self.head, self.program, Part::Instruction, place)
     }
 
     fn word(&mut self, place: u32) -> Result<u32, Refusal> {
-        let found = item(self.head, self.primary, Part::Word, place)?;
-        Ok(one_word(found))
+        item(self.head, self.primary, Part::Word, place)
     }
 
     fn line(&mut self, place: u32) -> Result<Line, Refusal> {
-        let found = item(self.head, self.cells, Part::Line, place)?;
-        Ok(line_of(found))
+        item(self.head, self.cells, Part::Line, place)
     }
 
     fn row(&mut self, place: u32) -> Result<Row, Refusal> {
-        let found = item(self.head, self.rows, Part::Row, place)?;
-        Ok(row_words(found))
+        item(self.head, self.rows, Part::Row, place)
     }
 }
 
@@ -101,42 +95,18 @@ fn head_of(
     })
 }
 
-// The item at a place of a list, which is empty without a head.
-fn item<R: Copy>(head: Option<Head>, items: &[R], part: Part, place: u32) -> Result<R, Refusal>
-    ensures { result ≡ item_answer part place (slice_get (listed head items.now) place) }
+// The item that the entry at a place of a table gives; without a head there is none.
+fn item<E: Entry>(
+    head: Option<Head>,
+    entries: &[E],
+    part: Part,
+    place: u32,
+) -> Result<E::Record, Refusal>
+    ensures { result ≡ item_answer part place (slice_get (listed head (map E.Entry.recorded entries.now)) place) }
 {
     match head {
         None => Err(Refusal::Past { part, place }),
-        Some(_) if place as usize >= items.len() => Err(Refusal::Past { part, place }),
-        Some(_) => Ok(items[place as usize]),
-    }
-}
-
-// The numbers of a record in hand are words, so it is the record that the meaning has.
-fn one_word(found: u32) -> u32
-    ensures { result ≡ word found }
-{
-    found
-}
-
-fn instruction_words(found: Instruction) -> Instruction
-    ensures { result ≡ instruction_words found }
-{
-    found
-}
-
-fn row_words(found: Row) -> Row
-    ensures { result ≡ row_words found }
-{
-    found
-}
-
-// A cell's entry gives its opening line.
-fn line_of(entry: CellEntry) -> Line
-    ensures { result ≡ line_of entry }
-{
-    Line {
-        cell: entry.cell,
-        step: entry.first,
+        Some(_) if place as usize >= entries.len() => Err(Refusal::Past { part, place }),
+        Some(_) => Ok(entries[place as usize].record()),
     }
 }

@@ -1,4 +1,5 @@
 // Layer 2: a dossier in the tables that a run has filled.
 #![tactic(auto)]
 
+mod entry;
 pub mod holder;
