@@ -12,10 +12,8 @@ use dossier::questions::Dossier;
 use rules::call::Call;
 
 fn make<D: Dossier>(checking: &mut Checking<D>, call: Call)
-    requires { D.Dossier.rule checking.old.dossier }
-    ensures kept { D.Dossier.rule checking.new.dossier }
-    ensures same { D.Dossier.meaning checking.new.dossier ≡ D.Dossier.meaning checking.old.dossier }
-    ensures progress { checking.new.progress ≡ called (D.Dossier.meaning checking.old.dossier) checking.old.progress call }
+    ensures same { checking.new.dossier ≡ checking.old.dossier }
+    ensures progress { checking.new.progress ≡ called checking.old.dossier checking.old.progress call }
 {
     match call {
         Call::Advance(k) => {

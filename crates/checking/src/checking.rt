@@ -8,6 +8,7 @@ ghost use Rattle.checking.specs.Laws.{Advances, ClosesAt};
 ghost use Rattle.checking.specs.Taking.{in_stage, stage_now, checked_now, settled, passed};
 
 use course::verdict::Verdict;
+use dossier::opened::Opened;
 use dossier::questions::Dossier;
 use dossier::record::Row;
 use outset::{admit, begin_under, left_of};
@@ -21,8 +22,8 @@ use unit_checks::unit::{enter, unit_at};
 
 // A dossier, and how far its checking has come.
 #[derive(Drop)]
-pub struct Checking<D> {
-    dossier: D,
+pub struct Checking<D: Dossier> {
+    dossier: Opened<D>,
     progress: Progress,
 }
 
@@ -36,23 +37,20 @@ impl<D: Dossier> Checking<D> {
     // A new checking, which never refuses: a missing head and one past the limits are findings.
     pub fn begin(dossier: D) -> Checking<D>
         requires { D.Dossier.rule dossier }
-        ensures kept { D.Dossier.rule result.dossier }
-        ensures same { D.Dossier.meaning result.dossier ≡ D.Dossier.meaning dossier }
+        ensures same { result.dossier ≡ D.Dossier.meaning dossier }
         ensures progress { result.progress ≡ begun (D.Dossier.meaning dossier) }
         ensures made { Made (D.Dossier.meaning dossier) }
     {
-        let mut dossier = dossier;
+        let dossier = Opened::new(dossier);
         let progress = begin_under(dossier.head());
         Checking { dossier, progress }
     }
 
     // Checks an item in its stage, which changes in place.
     fn judge(&mut self, unit: Unit, item: Item) -> Result<(), Finding>
-        requires { D.Dossier.rule self.old.dossier }
-        ensures kept { D.Dossier.rule self.new.dossier }
-        ensures same { D.Dossier.meaning self.new.dossier ≡ D.Dossier.meaning self.old.dossier }
-        ensures progress { self.new.progress ≡ in_stage self.old.progress (settled self.old.progress.stage (judged (D.Dossier.meaning self.old.dossier) self.old.progress.head unit self.old.progress.stage item)) }
-        ensures answer { result ≡ passed (judged (D.Dossier.meaning self.old.dossier) self.old.progress.head unit self.old.progress.stage item) }
+        ensures same { self.new.dossier ≡ self.old.dossier }
+        ensures progress { self.new.progress ≡ in_stage self.old.progress (settled self.old.progress.stage (judged self.old.dossier self.old.progress.head unit self.old.progress.stage item)) }
+        ensures answer { result ≡ passed (judged self.old.dossier self.old.progress.head unit self.old.progress.stage item) }
     {
         let head = self.progress.head;
         match (&mut self.progress.stage, item) {
@@ -74,11 +72,9 @@ impl<D: Dossier> Checking<D> {
 
     // Checks the next unit in its stage.
     fn check_unit(&mut self) -> Result<(), Finding>
-        requires { D.Dossier.rule self.old.dossier }
-        ensures kept { D.Dossier.rule self.new.dossier }
-        ensures same { D.Dossier.meaning self.new.dossier ≡ D.Dossier.meaning self.old.dossier }
-        ensures progress { self.new.progress ≡ in_stage self.old.progress (settled (stage_now self.old.progress) (checked_now (D.Dossier.meaning self.old.dossier) self.old.progress)) }
-        ensures answer { result ≡ passed (checked_now (D.Dossier.meaning self.old.dossier) self.old.progress) }
+        ensures same { self.new.dossier ≡ self.old.dossier }
+        ensures progress { self.new.progress ≡ in_stage self.old.progress (settled (stage_now self.old.progress) (checked_now self.old.dossier self.old.progress)) }
+        ensures answer { result ≡ passed (checked_now self.old.dossier self.old.progress) }
     {
         let unit = unit_at(self.progress.head, self.progress.taken);
         self.progress.stage = enter(unit, self.progress.stage);
@@ -88,11 +84,9 @@ impl<D: Dossier> Checking<D> {
 
     // Takes the next unit, or finds something at it.
     fn take(&mut self)
-        requires rule { D.Dossier.rule self.old.dossier }
-        requires few { self.old.progress.taken + 1 < 2 ^ 32 }
-        ensures kept { D.Dossier.rule self.new.dossier }
-        ensures same { D.Dossier.meaning self.new.dossier ≡ D.Dossier.meaning self.old.dossier }
-        ensures progress { self.new.progress ≡ took (D.Dossier.meaning self.old.dossier) self.old.progress }
+        requires { self.old.progress.taken + 1 < 2 ^ 32 }
+        ensures same { self.new.dossier ≡ self.old.dossier }
+        ensures progress { self.new.progress ≡ took self.old.dossier self.old.progress }
     {
         match self.check_unit() {
             Ok(()) => self.progress.taken += 1,
@@ -102,11 +96,9 @@ impl<D: Dossier> Checking<D> {
 
     // Takes the next `k` units, or up to a finding.
     fn take_units(&mut self, k: u32)
-        requires rule { D.Dossier.rule self.old.dossier }
-        requires few { self.old.progress.taken + k < 2 ^ 32 }
-        ensures kept { D.Dossier.rule self.new.dossier }
-        ensures same { D.Dossier.meaning self.new.dossier ≡ D.Dossier.meaning self.old.dossier }
-        ensures progress { self.new.progress ≡ taking (D.Dossier.meaning self.old.dossier) self.old.progress k }
+        requires { self.old.progress.taken + k < 2 ^ 32 }
+        ensures same { self.new.dossier ≡ self.old.dossier }
+        ensures progress { self.new.progress ≡ taking self.old.dossier self.old.progress k }
     {
         for _ in 0..k {
             if self.progress.finding.is_some() {
@@ -116,36 +108,21 @@ impl<D: Dossier> Checking<D> {
         }
     }
 
-    // Asks for the head, which tells that it counts the lists and that all numbers fit.
-    fn recall(&mut self)
-        requires { D.Dossier.rule self.old.dossier }
-        ensures kept { D.Dossier.rule self.new.dossier }
-        ensures same { D.Dossier.meaning self.new.dossier ≡ D.Dossier.meaning self.old.dossier }
-        ensures progress { self.new.progress ≡ self.old.progress }
-        ensures made { Made (D.Dossier.meaning self.old.dossier) }
-    {
-        let _ = self.dossier.head();
-    }
-
     // Takes the next `k` units and answers `k`, or stops at a finding and answers that.
     pub fn advance(&mut self, k: u32) -> Result<Advanced, Refused>
-        requires { D.Dossier.rule self.old.dossier }
-        ensures kept { D.Dossier.rule self.new.dossier }
-        ensures same { D.Dossier.meaning self.new.dossier ≡ D.Dossier.meaning self.old.dossier }
-        ensures progress { self.new.progress ≡ advanced (D.Dossier.meaning self.old.dossier) self.old.progress k }
-        ensures answer { result ≡ advance_answer (D.Dossier.meaning self.old.dossier) self.old.progress k }
-        ensures law { Advances (D.Dossier.meaning self.old.dossier) self.old.progress k result }
+        ensures same { self.new.dossier ≡ self.old.dossier }
+        ensures progress { self.new.progress ≡ advanced self.old.dossier self.old.progress k }
+        ensures answer { result ≡ advance_answer self.old.dossier self.old.progress k }
+        ensures law { Advances self.old.dossier self.old.progress k result }
     {
-        self.recall();
+        let _ = self.dossier.head();
         self.move_on(k)
     }
 
     fn move_on(&mut self, k: u32) -> Result<Advanced, Refused>
-        requires { D.Dossier.rule self.old.dossier }
-        ensures kept { D.Dossier.rule self.new.dossier }
-        ensures same { D.Dossier.meaning self.new.dossier ≡ D.Dossier.meaning self.old.dossier }
-        ensures progress { self.new.progress ≡ advanced (D.Dossier.meaning self.old.dossier) self.old.progress k }
-        ensures answer { result ≡ advance_answer (D.Dossier.meaning self.old.dossier) self.old.progress k }
+        ensures same { self.new.dossier ≡ self.old.dossier }
+        ensures progress { self.new.progress ≡ advanced self.old.dossier self.old.progress k }
+        ensures answer { result ≡ advance_answer self.old.dossier self.old.progress k }
     {
         admit(&self.progress, k)?;
         self.take_units(k);
@@ -167,15 +144,14 @@ impl<D: Dossier> Checking<D> {
     }
 
     // Uses the checking up.
-    pub fn close(mut self) -> Verdict
+    pub fn close(self) -> Verdict
     where
         D: Drop,
-        requires { D.Dossier.rule self.dossier }
         ensures outcome { result.outcome ≡ closing self.progress }
         ensures head { result.head ≡ self.progress.head }
-        ensures law { ClosesAt (D.Dossier.meaning self.dossier) self.progress result.outcome }
+        ensures law { ClosesAt self.dossier self.progress result.outcome }
     {
-        self.recall();
+        let _ = self.dossier.head();
         Verdict::new(&self.progress)
     }
 }

@@ -5,6 +5,7 @@ ghost use Rattle.rules.specs.Units.{then, needed};
 ghost use Rattle.rules.specs.Checks.{item_at};
 
 use crate::unit::need;
+use dossier::opened::Opened;
 use dossier::questions::Dossier;
 use dossier::record::{Line, Row};
 use dossier::refusal::Refusal;
@@ -37,11 +38,9 @@ fn row_item(unit: Unit, answer: Result<Row, Refusal>) -> Result<Item, Finding>
 }
 
 // The unit's own item.
-pub fn item_at<D: Dossier>(dossier: &mut D, unit: Unit) -> Result<Item, Finding>
-    requires { D.Dossier.rule dossier.old }
-    ensures kept { D.Dossier.rule dossier.new }
-    ensures same { D.Dossier.meaning dossier.new ≡ D.Dossier.meaning dossier.old }
-    ensures answer { result ≡ item_at (D.Dossier.meaning dossier.old) unit }
+pub fn item_at<D: Dossier>(dossier: &mut Opened<D>, unit: Unit) -> Result<Item, Finding>
+    ensures same { dossier.new ≡ dossier.old }
+    ensures answer { result ≡ item_at dossier.old unit }
 {
     match unit {
         Unit::Instruction(place) => instruction_item(unit, dossier.instruction(place)),

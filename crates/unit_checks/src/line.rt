@@ -6,6 +6,7 @@ ghost use Rattle.rules.specs.Units.{place_of, then, needed, unless};
 ghost use Rattle.rules.specs.Checks.{checked_instruction, checked_line, above, within};
 
 use crate::unit::{check, need, place_of};
+use dossier::opened::Opened;
 use dossier::questions::Dossier;
 use dossier::record::{Head, Line, Row};
 use dossier::refusal::Refusal;
@@ -56,16 +57,14 @@ fn check_opening(unit: Unit, answer: Result<Row, Refusal>) -> Result<(), Finding
 
 // Rules 24 and 25: the row is asked for only where there is such a step.
 pub fn check_line<D: Dossier>(
-    dossier: &mut D,
+    dossier: &mut Opened<D>,
     head: Head,
     unit: Unit,
     former: Option<u32>,
     line: Line,
 ) -> Result<(), Finding>
-    requires { D.Dossier.rule dossier.old }
-    ensures kept { D.Dossier.rule dossier.new }
-    ensures same { D.Dossier.meaning dossier.new ≡ D.Dossier.meaning dossier.old }
-    ensures answer { result ≡ checked_line (D.Dossier.meaning dossier.old) head unit former line }
+    ensures same { dossier.new ≡ dossier.old }
+    ensures answer { result ≡ checked_line dossier.old head unit former line }
 {
     let is_next = line.cell % 4 == 0 && is_above(former, line.cell);
     check(unit, is_next, Rule::LineOrder)?;

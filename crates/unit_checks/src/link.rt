@@ -7,6 +7,7 @@ ghost use Rattle.rules.specs.Units.{place_of, then, needed, unless};
 ghost use Rattle.rules.specs.Checks.{opens_touch, checked_origin, checked_next};
 
 use crate::unit::{check, need, place_of, step_of};
+use dossier::opened::Opened;
 use dossier::questions::Dossier;
 use dossier::record::{Head, Line, Row, Touch};
 use dossier::refusal::Refusal;
@@ -69,15 +70,13 @@ fn check_followed(unit: Unit, answer: Result<Row, Refusal>) -> Result<(), Findin
 
 // Rule 31 of a touch from a line: the line is asked for only where there is one.
 fn check_line_origin<D: Dossier>(
-    dossier: &mut D,
+    dossier: &mut Opened<D>,
     head: Head,
     unit: Unit,
     touch: Touch,
 ) -> Result<(), Finding>
-    requires { D.Dossier.rule dossier.old }
-    ensures kept { D.Dossier.rule dossier.new }
-    ensures same { D.Dossier.meaning dossier.new ≡ D.Dossier.meaning dossier.old }
-    ensures answer { result ≡ checked_origin (D.Dossier.meaning dossier.old) head unit (FromLine touch) }
+    ensures same { dossier.new ≡ dossier.old }
+    ensures answer { result ≡ checked_origin dossier.old head unit (FromLine touch) }
 {
     check(unit, touch.origin < head.lines, Rule::Origin)?;
     check_opened(unit, touch, dossier.line(touch.origin))
@@ -85,15 +84,13 @@ fn check_line_origin<D: Dossier>(
 
 // Rule 31 of a touch from a step: the row is asked for only if it is an earlier one.
 fn check_step_origin<D: Dossier>(
-    dossier: &mut D,
+    dossier: &mut Opened<D>,
     head: Head,
     unit: Unit,
     touch: Touch,
 ) -> Result<(), Finding>
-    requires { D.Dossier.rule dossier.old }
-    ensures kept { D.Dossier.rule dossier.new }
-    ensures same { D.Dossier.meaning dossier.new ≡ D.Dossier.meaning dossier.old }
-    ensures answer { result ≡ checked_origin (D.Dossier.meaning dossier.old) head unit (FromStep touch) }
+    ensures same { dossier.new ≡ dossier.old }
+    ensures answer { result ≡ checked_origin dossier.old head unit (FromStep touch) }
 {
     let is_earlier = 1 <= touch.origin && touch.origin <= place_of(unit);
     check(unit, is_earlier, Rule::Origin)?;
@@ -102,15 +99,13 @@ fn check_step_origin<D: Dossier>(
 
 // Rule 31.
 pub(crate) fn check_origin<D: Dossier>(
-    dossier: &mut D,
+    dossier: &mut Opened<D>,
     head: Head,
     unit: Unit,
     row: Row,
 ) -> Result<(), Finding>
-    requires { D.Dossier.rule dossier.old }
-    ensures kept { D.Dossier.rule dossier.new }
-    ensures same { D.Dossier.meaning dossier.new ≡ D.Dossier.meaning dossier.old }
-    ensures answer { result ≡ checked_origin (D.Dossier.meaning dossier.old) head unit row }
+    ensures same { dossier.new ≡ dossier.old }
+    ensures answer { result ≡ checked_origin dossier.old head unit row }
 {
     match row {
         Row::FromLine(touch) => check_line_origin(dossier, head, unit, touch),
@@ -121,15 +116,13 @@ pub(crate) fn check_origin<D: Dossier>(
 
 // Rule 32: next is 0, or a later row, which is then asked for.
 pub(crate) fn check_next<D: Dossier>(
-    dossier: &mut D,
+    dossier: &mut Opened<D>,
     head: Head,
     unit: Unit,
     next: u32,
 ) -> Result<(), Finding>
-    requires { D.Dossier.rule dossier.old }
-    ensures kept { D.Dossier.rule dossier.new }
-    ensures same { D.Dossier.meaning dossier.new ≡ D.Dossier.meaning dossier.old }
-    ensures answer { result ≡ checked_next (D.Dossier.meaning dossier.old) head unit next }
+    ensures same { dossier.new ≡ dossier.old }
+    ensures answer { result ≡ checked_next dossier.old head unit next }
 {
     if next == 0 {
         return Ok(());

@@ -9,6 +9,7 @@ ghost use Rattle.rules.specs.Checks.{operation_at, got_at, checked_operation, ch
 use crate::link::{check_next, check_origin};
 use crate::step::{check_step, touch_of};
 use crate::unit::need;
+use dossier::opened::Opened;
 use dossier::questions::Dossier;
 use dossier::record::{Head, Row};
 use dossier::refusal::Refusal;
@@ -35,15 +36,13 @@ fn given(unit: Unit, answer: Result<u32, Refusal>) -> Result<Option<u32>, Findin
 
 // The operation of instruction number `pc`: past the program it is `answer 1`.
 fn operation_at<D: Dossier>(
-    dossier: &mut D,
+    dossier: &mut Opened<D>,
     head: Head,
     unit: Unit,
     pc: u32,
 ) -> Result<Operation, Finding>
-    requires { D.Dossier.rule dossier.old }
-    ensures kept { D.Dossier.rule dossier.new }
-    ensures same { D.Dossier.meaning dossier.new ≡ D.Dossier.meaning dossier.old }
-    ensures answer { result ≡ operation_at (D.Dossier.meaning dossier.old) head unit pc }
+    ensures same { dossier.new ≡ dossier.old }
+    ensures answer { result ≡ operation_at dossier.old head unit pc }
 {
     if pc < head.instructions {
         executed(unit, dossier.instruction(pc))
@@ -67,17 +66,15 @@ fn input_of(row: Row) -> Option<u32>
 
 // What the step gets: a primary word, or what the row says.
 fn got_at<D: Dossier>(
-    dossier: &mut D,
+    dossier: &mut Opened<D>,
     head: Head,
     unit: Unit,
     cpu: &Cpu,
     demand: Demand,
     row: Row,
 ) -> Result<Option<u32>, Finding>
-    requires { D.Dossier.rule dossier.old }
-    ensures kept { D.Dossier.rule dossier.new }
-    ensures same { D.Dossier.meaning dossier.new ≡ D.Dossier.meaning dossier.old }
-    ensures answer { result ≡ got_at (D.Dossier.meaning dossier.old) head unit cpu.now demand row }
+    ensures same { dossier.new ≡ dossier.old }
+    ensures answer { result ≡ got_at dossier.old head unit cpu.now demand row }
 {
     match demand {
         Demand::Primary if cpu.place < head.words => given(unit, dossier.word(cpu.place)),
@@ -99,7 +96,7 @@ fn step_on(
 
 // The machine after a row whose step executes the operation.
 fn check_operation<D: Dossier>(
-    dossier: &mut D,
+    dossier: &mut Opened<D>,
     head: Head,
     unit: Unit,
     cpu: &Cpu,
@@ -107,10 +104,8 @@ fn check_operation<D: Dossier>(
     row: Row,
     operation: Operation,
 ) -> Result<Cpu, Finding>
-    requires { D.Dossier.rule dossier.old }
-    ensures kept { D.Dossier.rule dossier.new }
-    ensures same { D.Dossier.meaning dossier.new ≡ D.Dossier.meaning dossier.old }
-    ensures answer { result ≡ checked_operation (D.Dossier.meaning dossier.old) head unit cpu.now ended row operation }
+    ensures same { dossier.new ≡ dossier.old }
+    ensures answer { result ≡ checked_operation dossier.old head unit cpu.now ended row operation }
 {
     let demand = asks(operation, cpu);
     check_step(head.rows, unit, ended, operation, cpu, demand, row)?;
@@ -125,17 +120,15 @@ fn check_operation<D: Dossier>(
 
 // The machine after the row.
 pub fn check_row<D: Dossier>(
-    dossier: &mut D,
+    dossier: &mut Opened<D>,
     head: Head,
     unit: Unit,
     cpu: &Cpu,
     ended: bool,
     row: Row,
 ) -> Result<Cpu, Finding>
-    requires { D.Dossier.rule dossier.old }
-    ensures kept { D.Dossier.rule dossier.new }
-    ensures same { D.Dossier.meaning dossier.new ≡ D.Dossier.meaning dossier.old }
-    ensures answer { result ≡ checked_row (D.Dossier.meaning dossier.old) head unit cpu.now ended row }
+    ensures same { dossier.new ≡ dossier.old }
+    ensures answer { result ≡ checked_row dossier.old head unit cpu.now ended row }
 {
     let operation = operation_at(dossier, head, unit, cpu.pc)?;
     check_operation(dossier, head, unit, cpu, ended, row, operation)
