@@ -66,6 +66,7 @@ impl Mnemonic {
         MNEMONICS[opcode]
     }
 
+    // Its opcode. The table read backwards would be a search; the match names all 29, as the compiler sees.
     pub(crate) fn opcode(self) -> u32
         ensures value { result ≡ opcode_of self }
         ensures bound { result < 32 }

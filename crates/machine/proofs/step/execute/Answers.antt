@@ -3,8 +3,5 @@ use Rattle.machine.specs.Laws.{Frame}
 use Rattle.machine.proofs.Laws.{stepped_frame}
 use Rattle.machine.proofs.step.execute.Goals as goal
 
-pub returns : goal.returns
-returns c = record {
-  value = c.perform.ensures;
-  frame = subst (Frame c.args.operation c.args.got c.args.cpu) (sym c.perform.ensures) (stepped_frame c.args.cpu c.args.operation c.args.got);
-}
+pub returns-clause-frame : goal.returns-clause-frame
+returns-clause-frame c = subst (Frame c.args.operation c.args.got c.args.cpu) (sym c.perform.ensures) (stepped_frame c.args.cpu c.args.operation c.args.got)

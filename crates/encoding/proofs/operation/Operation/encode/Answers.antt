@@ -2,5 +2,5 @@ use Rattle.std.proofs.Common.{sym, ◌∙◌}
 use Rattle.encoding.proofs.Inverse.{encoded_back}
 use Rattle.encoding.proofs.operation.Operation.encode.Goals as goal
 
-pub returns : goal.returns
-returns c = record { value = c.write.ensures; back = λ n e. encoded_back c.args.self n (sym c.write.ensures ∙ e) }
+pub returns-clause-back : goal.returns-clause-back
+returns-clause-back c = λ n e. encoded_back c.args.self n (sym c.write.ensures ∙ e)
