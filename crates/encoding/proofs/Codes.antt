@@ -7,7 +7,7 @@ use Rattle.encoding.specs.declared.operation.Condition.TheVariants.{Always, IfFl
 use Rattle.encoding.specs.declared.mnemonic.Mnemonic.{Mnemonic}
 use Rattle.encoding.specs.declared.mnemonic.Mnemonic.TheVariants.{Compute, Not, Compare, Move, MoveIfFlag, Jump, Store, Load, Read, Answer}
 use Rattle.encoding.specs.Opcodes.{mnemonics, mnemonic_of, opcode_of}
-use Rattle.encoding.proofs.Options.{no_some}
+use Rattle.std.proofs.lemmas.Option.{none-some}
 
 -- each mnemonic stands at its opcode
 pub code_back : (m : Mnemonic) → mnemonic_of (opcode_of m) ≡ Some m
@@ -56,8 +56,8 @@ split false b t = absurd t
 
 table_from : (xs : List (Option Mnemonic)) (i : ℕ) → T (every i xs) → (k : ℕ) (m : Mnemonic) → get_or xs k None ≡ Some m → opcode_of m ≡ i + k
 unfolding every fits_at
-table_from [] i t k m e = no_some m e
-table_from (None ∷ xs) i t zero m e = no_some m e
+table_from [] i t k m e = absurd (none-some m e)
+table_from (None ∷ xs) i t zero m e = absurd (none-some m e)
 table_from (Some x ∷ xs) i t zero m e =
     let same : x ≡ m = cc in
     omega (arith, eqb→eq (opcode_of x) i (split _ _ t).0, ap opcode_of same)

@@ -11,7 +11,7 @@ use Rattle.encoding.specs.declared.operation.Operation.TheVariants as O
 use Rattle.encoding.specs.declared.instruction.Instruction.{Instruction}
 use Rattle.encoding.specs.Opcodes.{mnemonic_of, opcode_of}
 use Rattle.encoding.specs.Encoding.{opcode, immediate, destination, source, padding, operand_of, arranged, both, decoded, immediate_bit, operand_word, named, packed, placed, encoded}
-use Rattle.encoding.proofs.Options.{no_some, if_some}
+use Rattle.std.proofs.lemmas.Option.{none-some, cond_some}
 use Rattle.encoding.proofs.Codes.{code_back, code_only}
 
 -- WHAT IS WRITTEN IS READ
@@ -59,7 +59,7 @@ and_true false b e = let z : ◌≡◌ {A = ℕ} 0 1 = cc in absurd (omega arith
 
 placed_back : (m : Mnemonic) (i j : ℕ) (a : Operand) (n : Instruction) → placed m i j a ≡ Some n → decoded n ≡ arranged m i j a
 placed_back m i j a n e =
-    let (t, same) = if_some (ltb i 16 && (ltb j 16 && named a)) (packed m i j a) n e in
+    let (t, same) = cond_some (ltb i 16 && (ltb j 16 && named a)) (packed m i j a) n e in
     let (ti, t') = and_true (ltb i 16) _ t in
     let (tj, ta) = and_true (ltb j 16) _ t' in
     let hi : i < 16 = grind (arith, nat_tests) in
@@ -85,31 +85,31 @@ operand_only true n a e =
     let same : Immediate n ≡ a = cc in
     subst (λ (x : Operand). (immediate_bit x ≡ 1) × (operand_word x ≡ n) × (named x ≡ true)) same (refl, refl, refl)
 operand_only false n a e =
-    let (t, same) = if_some (ltb n 16) (Register n) a e in
+    let (t, same) = cond_some (ltb n 16) (Register n) a e in
     subst (λ (x : Operand). (immediate_bit x ≡ 0) × (operand_word x ≡ n) × (named x ≡ true)) same (refl, refl, t)
 
 opened : (b : Bool) (x : Option Mnemonic) (y : Option Operand) (i j : ℕ) (o : Operation) → cond b (both x y i j) None ≡ Some o
     → (m : Mnemonic) × (a : Operand) × (b ≡ true) × (x ≡ Some m) × (y ≡ Some a) × (arranged m i j a ≡ Some o)
 opened true (Some m) (Some a) i j o e = (m, a, refl, refl, refl, e)
-opened true (Some m) None i j o e = no_some o e
-opened true None y i j o e = no_some o e
-opened false x y i j o e = no_some o e
+opened true (Some m) None i j o e = absurd (none-some o e)
+opened true None y i j o e = absurd (none-some o e)
+opened false x y i j o e = absurd (none-some o e)
 
 module _ (i j : ℕ) (a : Operand) (o : Operation) where
   -- the source, the destination, or both are not used
   no_source : (m : Mnemonic) (x : Operation) → encoded x ≡ placed m i 0 a → cond (eqb j 0) (Some x) None ≡ Some o → encoded o ≡ placed m i j a
   no_source m x w e =
-      let (t, same) = if_some (eqb j 0) x o e in
+      let (t, same) = cond_some (eqb j 0) x o e in
       ap encoded (sym same) ∙ w ∙ ap (λ k. placed m i k a) (sym (eqb-true j 0 t))
 
   no_destination : (m : Mnemonic) (x : Operation) → encoded x ≡ placed m 0 j a → cond (eqb i 0) (Some x) None ≡ Some o → encoded o ≡ placed m i j a
   no_destination m x w e =
-      let (t, same) = if_some (eqb i 0) x o e in
+      let (t, same) = cond_some (eqb i 0) x o e in
       ap encoded (sym same) ∙ w ∙ ap (λ k. placed m k j a) (sym (eqb-true i 0 t))
 
   no_register : (m : Mnemonic) (x : Operation) → encoded x ≡ placed m 0 0 a → cond (eqb i 0 && eqb j 0) (Some x) None ≡ Some o → encoded o ≡ placed m i j a
   no_register m x w e =
-      let (t, same) = if_some (eqb i 0 && eqb j 0) x o e in
+      let (t, same) = cond_some (eqb i 0 && eqb j 0) x o e in
       let (p, q) = and_true (eqb i 0) (eqb j 0) t in
       ap encoded (sym same) ∙ w ∙ ap (λ k. placed m k 0 a) (sym (eqb-true i 0 p)) ∙ ap (λ k. placed m i k a) (sym (eqb-true j 0 q))
 

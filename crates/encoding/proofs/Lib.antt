@@ -1,4 +1,3 @@
-pub mod Options
 mod Codes
 pub mod Inverse
 pub mod Formed
