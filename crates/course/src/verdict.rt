@@ -32,12 +32,10 @@ impl Drop for Verdict {
 fn close_at(progress: &Progress) -> Outcome
     ensures { result ≡ closing progress.now }
 {
-    if let Some(finding) = progress.finding {
-        return Outcome::Found(finding);
-    }
-    match left_of(progress) {
-        0 => Outcome::Accepted(progress.head.rows),
-        left => Outcome::Unfinished(left),
+    match (progress.finding, left_of(progress)) {
+        (Some(finding), _) => Outcome::Found(finding),
+        (None, 0) => Outcome::Accepted(progress.head.rows),
+        (None, left) => Outcome::Unfinished(left),
     }
 }
 

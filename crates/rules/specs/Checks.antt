@@ -143,18 +143,15 @@ got_at m h w s demand.Primary r =
 got_at m h w s demand.Advice r = Ok (input_of r)
 got_at m h w s (demand.Halt v) r = Ok (input_of r)
 
--- the machine after a row whose step executes operation o
-abbrev pub checked_operation : Meaning → Head → progress.Unit → Cpu → Bool → Row → Operation → Result Cpu Finding
-checked_operation m h w s ended r o =
-    then (checked_step h.rows w ended (left o s) (asked o s) r)
+-- the machine after the row
+abbrev pub checked_row : Meaning → Head → progress.Unit → Cpu → Bool → Row → Result Cpu Finding
+checked_row m h w s ended r =
+    then (operation_at m h w s.pc)
+    (λ o. then (checked_step h.rows w ended (left o s) (asked o s) r)
     (λ _. then (checked_origin m h w r)
     (λ _. then (checked_next m h w (touch_of r).next)
     (λ _. then (got_at m h w s (asked o s) r)
-    (λ g. Ok (stepped o g s)))))
-
--- the machine after the row
-abbrev pub checked_row : Meaning → Head → progress.Unit → Cpu → Bool → Row → Result Cpu Finding
-checked_row m h w s ended r = then (operation_at m h w s.pc) (checked_operation m h w s ended r)
+    (λ g. Ok (stepped o g s))))))
 
 -- UNITS
 
