@@ -13,7 +13,7 @@ use outset::{admit, begin_under, left_of};
 use rules::call::{Advanced, Refused, Report};
 use rules::finding::Finding;
 use rules::progress::{Item, Progress, Stage};
-use unit_checks::unit::Turn;
+use unit_checks::turn::Turn;
 
 // A dossier, and how far its checking has come.
 #[derive(Drop)]

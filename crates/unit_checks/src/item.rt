@@ -2,7 +2,7 @@
 ghost use Rattle.std.specs.Prelude.{◌≡◌};
 ghost use Rattle.rules.specs.Checks.{item_at};
 
-use crate::unit::Turn;
+use crate::turn::Turn;
 use dossier::questions::Dossier;
 use rules::finding::Finding;
 use rules::progress::{Item, Unit};

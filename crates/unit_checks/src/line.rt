@@ -2,7 +2,7 @@
 ghost use Rattle.std.specs.Prelude.{◌≡◌};
 ghost use Rattle.rules.specs.Checks.{checked_instruction, checked_line, above, within};
 
-use crate::unit::Turn;
+use crate::turn::Turn;
 use dossier::questions::Dossier;
 use dossier::record::Line;
 use encoding::instruction::Instruction;

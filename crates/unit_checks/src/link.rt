@@ -2,7 +2,7 @@
 ghost use Rattle.std.specs.Prelude.{◌≡◌};
 ghost use Rattle.rules.specs.Checks.{opens_touch, checked_origin, checked_next};
 
-use crate::unit::Turn;
+use crate::turn::Turn;
 use dossier::questions::Dossier;
 use dossier::record::{Line, Row, Touch};
 use rules::finding::{Finding, Rule};

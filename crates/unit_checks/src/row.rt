@@ -4,7 +4,7 @@ ghost use Rattle.run_log.specs.Run.{input_of};
 ghost use Rattle.rules.specs.Checks.{operation_at, got_at, checked_row};
 
 use crate::step::{Step, touch_of};
-use crate::unit::Turn;
+use crate::turn::Turn;
 use dossier::questions::Dossier;
 use dossier::record::Row;
 use encoding::operation::{Operand, Operation};

@@ -4,7 +4,7 @@ ghost use Rattle.machine.specs.Effects.{left};
 ghost use Rattle.rules.specs.Checks.{only_zero, halts_last, kind_fits, advice_fits, touch_fits, checked_step};
 ghost use Rattle.run_log.specs.Rules.{touch_of};
 
-use crate::unit::Turn;
+use crate::turn::Turn;
 use dossier::record::{Row, Touch};
 use encoding::operation::Operation;
 use machine::cpu::Cpu;

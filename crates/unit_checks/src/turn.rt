@@ -102,7 +102,7 @@ impl Turn {
     pub(crate) fn check(self, test: bool, rule: Rule) -> Result<(), Finding>
         ensures { result ≡ unless test self.unit rule }
     {
-        test.then_some(()).ok_or(Finding::Broken {
+        test.then_some(()).ok_or_else(|| Finding::Broken {
             rule,
             part: self.part(),
             place: self.place(),
