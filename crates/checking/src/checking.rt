@@ -16,6 +16,8 @@ use rules::progress::{Item, Progress, Stage};
 use unit_checks::turn::Turn;
 
 // A dossier, and how far its checking has come.
+// The dossier's rule stands in the methods' clauses, and not in a ghost field, which holds only what is known to
+// have at most one proof: the trait leaves open what an implementation's rule is.
 #[derive(Drop)]
 pub struct Checking<D> {
     dossier: D,
