@@ -1,5 +1,9 @@
 // The calls of a checking, and their answers.
+ghost use Rattle.std.specs.Prelude.{Some};
+ghost use Rattle.rules.specs.Text.{outcome_text};
+
 use crate::finding::Finding;
+use std::fmt;
 
 #[derive(Clone, Copy, PartialEq, Debug)]
 pub enum Call {
@@ -42,4 +46,16 @@ pub enum Outcome {
     Found(Finding),
     // with the units left
     Unfinished(u32),
+}
+
+impl fmt::Display for Outcome {
+    ghost output = { λ x. Some (outcome_text x) };
+
+    fn fmt<W: fmt::Write>(&self, f: &mut fmt::Formatter<W>) -> fmt::Result {
+        match *self {
+            Outcome::Accepted(_) => write!(f, "accepted"),
+            Outcome::Found(finding) => write!(f, "finding {finding}"),
+            Outcome::Unfinished(left) => write!(f, "unfinished {left}"),
+        }
+    }
 }
