@@ -9,6 +9,8 @@ use rules::call::Outcome;
 use rules::progress::Progress;
 
 // What the close says, and the head's numbers, or zeros without a head.
+// The flag stands in place of a type with no `Drop`: so the prover, and not the compiler, refuses to let a verdict go,
+// and an edit can try that.
 pub struct Verdict {
     outcome: Outcome,
     head: Head,
