@@ -4,14 +4,16 @@ use Rattle.rules.proofs.Dossiers.{existence, uniqueness}
 use Rattle.checking.specs.Laws.{AcceptsGenuine}
 use Rattle.checking.proofs.calls.check_all.Goals as goal
 
-pub returns : goal.returns
-returns g c =
+pub returns-clause-law : goal.returns-clause-law
+returns-clause-law g c =
     let m = g.D.Dossier.meaning c.args.dossier in
-    record {
-      outcome = c.take_all.ensures.outcome;
-      head = c.take_all.ensures.head;
-      law = subst (AcceptsGenuine m) (sym c.take_all.ensures.outcome) (all_at_once m c.take_all.ensures.made);
-      acceptance = acceptance;
-      existence = existence;
-      uniqueness = uniqueness;
-    }
+    subst (AcceptsGenuine m) (sym c.take_all.ensures.outcome) (all_at_once m c.take_all.ensures.made)
+
+pub returns-clause-acceptance : goal.returns-clause-acceptance
+returns-clause-acceptance g c = acceptance
+
+pub returns-clause-existence : goal.returns-clause-existence
+returns-clause-existence g c = existence
+
+pub returns-clause-uniqueness : goal.returns-clause-uniqueness
+returns-clause-uniqueness g c = uniqueness
