@@ -132,10 +132,10 @@ pub record Says (q : Progress) (T : ℕ) : Type 0 where
 
 says_at : (b : Bool) (l n T : ℕ) → cond b (outcome.Accepted n) (outcome.Unfinished l) ≡ outcome.Accepted T → (b ≡ true) × (n ≡ T)
 says_at true l n T e = (refl, cc)
-says_at false l n T e = let z : ◌≡◌ {A = ℕ} 0 1 = cc in absurd (omega arith)
+says_at false l n T e = absurd (cc)
 
 says_by : (f : Option Finding) (l n T : ℕ) → closing_by f l n ≡ outcome.Accepted T → (f ≡ None) × (l ≡ 0) × (n ≡ T)
-says_by (Some f) l n T e = let z : ◌≡◌ {A = ℕ} 0 1 = cc in absurd (omega arith)
+says_by (Some f) l n T e = absurd (cc)
 says_by None l n T e = let (b, t) = says_at (eqb l 0) l n T e in (refl, grind (arith, nat_tests), t)
 
 pub says : (q : Progress) (T : ℕ) → closing q ≡ outcome.Accepted T → Says q T
@@ -242,7 +242,7 @@ by_limits m mk h e true lim cs = begun_closes m mk h e lim cs
 by_limits m mk h e false lim cs =
     let s : begun m ≡ stopped h rule.Limits = ap (λ x. begun_by (item_answer part.Head 0 (Some x))) e ∙ rw lim in
     stopped_closes m cs _ (ap (λ q. q.finding) s)
-    (λ w. let t = limits_in h (subst HeadWithin e w) in let z : ◌≡◌ {A = ℕ} 0 1 = cc in omega arith)
+    (λ w. let t = limits_in h (subst HeadWithin e w) in cc)
 
 by_head : (m : Meaning) → Made m → (x : Item Head) → m.head ≡ x → (cs : List Call) → Closes m cs (closing (after m cs))
 by_head m mk (Ok h) e cs = by_limits m mk h e (in_limits h) refl cs

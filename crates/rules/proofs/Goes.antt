@@ -7,7 +7,7 @@ use Rattle.rules.specs.declared.progress.Unit as progress
 use Rattle.rules.specs.Units.{then, unless, needed}
 
 pub no_ok : {X E : Type 0} {P : Type 0} (e : E) (x : X) → Err e ≡ Ok x → P
-no_ok e x h = let z : ◌≡◌ {A = ℕ} 0 1 = cc in absurd (omega arith)
+no_ok e x h = absurd (cc)
 
 pub same_ok : {X E : Type 0} (x y : X) → ◌≡◌ {A = Result X E} (Ok x) (Ok y) → x ≡ y
 same_ok x y h = cc
@@ -28,7 +28,7 @@ held false w r u e = no_ok _ u e
 
 pub holds : (b : Bool) (w : progress.Unit) (r : Rule) → b ≡ true → unless b w r ≡ Ok tt
 holds true w r e = refl
-holds false w r e = let z : ◌≡◌ {A = ℕ} 0 1 = cc in absurd (omega arith)
+holds false w r e = absurd (cc)
 
 -- a test first, then the rest
 pub past_test : {Y : Type 0} (b : Bool) (w : progress.Unit) (r : Rule) (f : Unit → Result Y Finding) (y : Y) → then (unless b w r) f ≡ Ok y → (b ≡ true) × (f tt ≡ Ok y)
@@ -37,15 +37,7 @@ past_test false w r f y e = no_ok _ y e
 
 pub with_test : {Y : Type 0} (b : Bool) (w : progress.Unit) (r : Rule) (f : Unit → Result Y Finding) (y : Y) → b ≡ true → f tt ≡ Ok y → then (unless b w r) f ≡ Ok y
 with_test true w r f y t e = e
-with_test false w r f y t e = let z : ◌≡◌ {A = ℕ} 0 1 = cc in absurd (omega arith)
-
-pub both_true : (a b : Bool) → (a && b) ≡ true → (a ≡ true) × (b ≡ true)
-both_true true b e = (refl, e)
-both_true false b e = let z : ◌≡◌ {A = ℕ} 0 1 = cc in absurd (omega arith)
-
-pub and_true : (a b : Bool) → a ≡ true → b ≡ true → (a && b) ≡ true
-and_true true b e h = h
-and_true false b e h = e
+with_test false w r f y t e = absurd (cc)
 
 -- what was needed was there
 pub was_there : {R : Type 0} (w : progress.Unit) (a : Result R Refusal) (r : R) → needed w a ≡ Ok r → a ≡ Ok r

@@ -11,7 +11,7 @@ use Rattle.rules.specs.Checks.{checked}
 use Rattle.rules.specs.Course.{ready, moved, took, onward, taking}
 
 pub no_none : {X : Type 0} {P : Type 0} (x : X) → Some x ≡ None → P
-no_none x e = let z : ◌≡◌ {A = ℕ} 0 1 = cc in absurd (omega arith)
+no_none x e = absurd (cc)
 
 ok_of : (q : Progress) (c : Result Stage Finding) → (moved q c).finding ≡ None → (s : Stage) × (c ≡ Ok s)
 ok_of q (Ok s) e = (s, refl)
