@@ -21,7 +21,7 @@ use Rattle.rules.specs.Course.{in_limits, stopped, no_head, begun_by, begun, lef
 use Rattle.rules.specs.Laws.{record_or, program, primary, lines, rows, every_unit, Within, HeadWithin, Genuine, Closes, Acceptance, Advancing}
 use Rattle.run_log.specs.Words.{Exactly}
 use Rattle.rules.proofs.Whole.{whole, is_whole}
-use Rattle.rules.proofs.Taking.{no_none, run, reached}
+use Rattle.rules.proofs.Taking.{run, reached}
 use Rattle.rules.proofs.Genuine.{Counts, all_readable, sound_units, complete_units, good_keeps, good_formed, keeps_good}
 use Rattle.rules.proofs.Calls.{either_way, after_found, reach, Counted, made}
 use Rattle.rules.proofs.Calls as calls
@@ -151,7 +151,8 @@ accepts q T s =
 never : (m : Meaning) (cs : List Call) (f : Finding) → (begun m).finding ≡ Some f → (T : ℕ) {P : Type 0} → closing (after m cs) ≡ outcome.Accepted T → P
 never m cs f e T c =
     let s = (says (after m cs) T c).none in
-    no_none f (sym e ∙ ap (λ q. q.finding) (sym (after_found m (begun m) f e cs)) ∙ s)
+    let a = after_found m (begun m) f e cs in
+    absurd (cc)
 
 stopped_closes : (m : Meaning) (cs : List Call) (f : Finding) → (begun m).finding ≡ Some f → (HeadWithin m.head → ⊥) → Closes m cs (closing (after m cs))
 stopped_closes m cs f e n = record {
