@@ -16,16 +16,16 @@ found f q = record { head = q.head; total = q.total; taken = q.taken; stage = q.
 
 pub moved_ok : (p q : Progress) (c : Result Stage Finding) → q ≡ in_stage p (settled (stage_now p) c) → Ok tt ≡ passed c → one_past q ≡ moved p c
 moved_ok p q (Ok s) e h = ap one_past e
-moved_ok p q (Err f) e h = let z : ◌≡◌ {A = ℕ} 0 1 = cc in absurd (omega arith)
+moved_ok p q (Err f) e h = absurd (cc)
 
 pub moved_err : (p q : Progress) (c : Result Stage Finding) (f : Finding) → q ≡ in_stage p (settled (stage_now p) c) → Err f ≡ passed c → found f q ≡ moved p c
-moved_err p q (Ok s) f e h = let z : ◌≡◌ {A = ℕ} 0 1 = cc in absurd (omega arith)
+moved_err p q (Ok s) f e h = absurd (cc)
 moved_err p q (Err d) f e h = let same : f ≡ d = cc in ap (found f) e ∙ ap (λ (x : Finding). found x (in_stage p (stage_now p))) same
 
 -- a finding stays
 stay : (m : Meaning) (p : Progress) (o : Option Finding) → is_some o ≡ true → onward m p o ≡ p
 stay m p (Some f) h = refl
-stay m p None h = let z : ◌≡◌ {A = ℕ} 0 1 = cc in absurd (omega arith)
+stay m p None h = absurd (cc)
 
 pub taking_stays : (m : Meaning) (p : Progress) (i k : ℕ) → i ≤ k → is_some (taking m p i).finding ≡ true → taking m p k ≡ taking m p i
 taking_stays m p i zero h e = let z : 0 ≡ i = omega arith in ap (taking m p) z
@@ -37,7 +37,7 @@ taking_stays m p i (suc k) h e =
 
 -- without a finding one unit more is taken
 goes : (m : Meaning) (p : Progress) (o : Option Finding) → is_some o ≡ false → took m p ≡ onward m p o
-goes m p (Some f) h = let z : ◌≡◌ {A = ℕ} 0 1 = cc in absurd (omega arith)
+goes m p (Some f) h = absurd (cc)
 goes m p None h = refl
 
 pub taking_more : (m n : Meaning) (p q r : Progress) (i : ℕ) → n ≡ m → q ≡ taking m p i → is_some q.finding ≡ false → r ≡ took n q → r ≡ taking m p (i + 1)

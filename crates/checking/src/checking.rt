@@ -1,7 +1,6 @@
 // A checking, which takes a dossier's units by turns.
-ghost use Rattle.std.specs.Prelude.{◌≡◌, ◌+◌, ◌^◌, ◌<◌, ◌==◌};
+ghost use Rattle.std.specs.Prelude.{◌≡◌, ◌+◌, ◌^◌, ◌<◌};
 ghost use Rattle.dossier.specs.Meaning.{Made};
-ghost use Rattle.run_log.specs.Rules.{kind_of};
 ghost use Rattle.rules.specs.Checks.{judged};
 ghost use Rattle.rules.specs.Course.{begun, took, taking, advanced, advance_answer, reported, closing};
 ghost use Rattle.checking.specs.Laws.{Advances, ClosesAt};
@@ -14,23 +13,14 @@ use dossier::record::Row;
 use outset::{admit, begin_under, left_of};
 use rules::call::{Advanced, Refused, Report};
 use rules::finding::Finding;
-use rules::progress::{Item, Progress, Stage, Unit};
-use unit_checks::item::item_at;
-use unit_checks::line::{check_instruction, check_line};
-use unit_checks::row::check_row;
-use unit_checks::unit::{enter, unit_at};
+use rules::progress::{Item, Progress, Stage};
+use unit_checks::turn::Turn;
 
 // A dossier, and how far its checking has come.
 #[derive(Drop)]
 pub struct Checking<D: Dossier> {
     dossier: Opened<D>,
     progress: Progress,
-}
-
-fn is_end(row: Row) -> bool
-    ensures { result ≡ ((kind_of row) == 4) }
-{
-    matches!(row, Row::AdviceEnd)
 }
 
 impl<D: Dossier> Checking<D> {
@@ -47,23 +37,22 @@ impl<D: Dossier> Checking<D> {
     }
 
     // Checks an item in its stage, which changes in place.
-    fn judge(&mut self, unit: Unit, item: Item) -> Result<(), Finding>
+    fn judge(&mut self, turn: Turn, item: Item) -> Result<(), Finding>
         ensures same { self.new.dossier ≡ self.old.dossier }
-        ensures progress { self.new.progress ≡ in_stage self.old.progress (settled self.old.progress.stage (judged self.old.dossier self.old.progress.head unit self.old.progress.stage item)) }
-        ensures answer { result ≡ passed (judged self.old.dossier self.old.progress.head unit self.old.progress.stage item) }
+        ensures progress { self.new.progress ≡ in_stage self.old.progress (settled self.old.progress.stage (judged self.old.dossier turn.head turn.unit self.old.progress.stage item)) }
+        ensures answer { result ≡ passed (judged self.old.dossier turn.head turn.unit self.old.progress.stage item) }
     {
-        let head = self.progress.head;
         match (&mut self.progress.stage, item) {
             (Stage::Instructions, Item::Instruction(instruction)) => {
-                check_instruction(unit, instruction)?;
+                turn.check_instruction(instruction)?;
             }
             (Stage::Lines { former }, Item::Line(line)) => {
-                check_line(&mut self.dossier, head, unit, *former, line)?;
+                turn.check_line(&mut self.dossier, *former, line)?;
                 *former = Some(line.cell);
             }
             (Stage::Rows { cpu, ended }, Item::Row(row)) => {
-                *cpu = check_row(&mut self.dossier, head, unit, cpu, *ended, row)?;
-                *ended = *ended || is_end(row);
+                *cpu = turn.check_row(&mut self.dossier, cpu, *ended, row)?;
+                *ended = *ended || row == Row::AdviceEnd;
             }
             _ => {}
         }
@@ -76,10 +65,10 @@ impl<D: Dossier> Checking<D> {
         ensures progress { self.new.progress ≡ in_stage self.old.progress (settled (stage_now self.old.progress) (checked_now self.old.dossier self.old.progress)) }
         ensures answer { result ≡ passed (checked_now self.old.dossier self.old.progress) }
     {
-        let unit = unit_at(self.progress.head, self.progress.taken);
-        self.progress.stage = enter(unit, self.progress.stage);
-        let item = item_at(&mut self.dossier, unit)?;
-        self.judge(unit, item)
+        let turn = Turn::new(self.progress.head, self.progress.taken);
+        self.progress.stage = turn.stage(self.progress.stage);
+        let item = turn.item(&mut self.dossier)?;
+        self.judge(turn, item)
     }
 
     // Takes the next unit, or finds something at it.
@@ -126,10 +115,11 @@ impl<D: Dossier> Checking<D> {
     {
         admit(&self.progress, k)?;
         self.take_units(k);
-        Ok(match self.progress.finding {
-            Some(finding) => Advanced::Found(finding),
-            None => Advanced::Took(k),
-        })
+        Ok(
+            self.progress
+                .finding
+                .map_or(Advanced::Took(k), Advanced::Found),
+        )
     }
 
     // Tells the units taken and left, and the finding, if there is one.

@@ -4,26 +4,11 @@
 -- Assumes nothing.
 use Rattle.std.specs.Prelude.{ℕ, List, [], ◌∷◌}
 use Rattle.dossier.specs.Meaning.{part_number}
-use Rattle.rules.specs.declared.finding.Rule.{Rule}
-use Rattle.rules.specs.declared.finding.Rule.TheVariants as rule
 use Rattle.rules.specs.declared.finding.Finding.{Finding}
 use Rattle.rules.specs.declared.finding.Finding.TheVariants.{Broken, Unreadable}
 use Rattle.rules.specs.declared.call.Refused.{Refused}
 use Rattle.rules.specs.declared.call.Refused.TheVariants.{ByZero, TooMany, AfterFinding}
-
-abbrev pub rule_number : Rule → ℕ
-rule_number rule.Head = 20
-rule_number rule.Limits = 21
-rule_number rule.WellFormed = 23
-rule_number rule.LineOrder = 24
-rule_number rule.LineStep = 25
-rule_number rule.OtherAnswer = 26
-rule_number rule.LastAnswer = 27
-rule_number rule.Kind = 28
-rule_number rule.AdviceEnd = 29
-rule_number rule.Touch = 30
-rule_number rule.Origin = 31
-rule_number rule.Next = 32
+use Rattle.rules.specs.Text.{rule_number}
 
 abbrev pub finding_number : Finding → ℕ
 finding_number (Broken r p k) = rule_number r

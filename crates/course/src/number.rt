@@ -1,12 +1,10 @@
 // The numbers of findings and of refusals to advance, and the values that they return.
 ghost use Rattle.std.specs.Prelude.{◌≡◌, ℕ, List};
 ghost use Rattle.std.specs.List.{slice_get};
-ghost use Rattle.dossier.specs.Meaning.{part_number};
-ghost use Rattle.course.specs.Numbers.{rule_number, finding_number, finding_values, refused_number, refused_values};
+ghost use Rattle.course.specs.Numbers.{finding_number, finding_values, refused_number, refused_values};
 
-use dossier::refusal::Part;
 use rules::call::Refused;
-use rules::finding::{Finding, Rule};
+use rules::finding::Finding;
 
 pub trait Numbered {
     ghost assigned: { Self → ℕ };
@@ -21,18 +19,6 @@ pub trait Numbered {
         ensures { result ≡ slice_get (returned self.now) place };
 }
 
-pub(crate) fn rule_number(rule: Rule) -> u8
-    ensures { result ≡ rule_number rule }
-{
-    rule as u8
-}
-
-pub(crate) fn part_number(part: Part) -> u8
-    ensures { result ≡ part_number part }
-{
-    part as u8
-}
-
 impl Numbered for Finding {
     ghost assigned = { finding_number };
 
@@ -40,7 +26,7 @@ impl Numbered for Finding {
 
     fn number(&self) -> u8 {
         match *self {
-            Finding::Broken { rule, .. } => rule_number(rule),
+            Finding::Broken { rule, .. } => u8::from(rule),
             Finding::Unreadable { .. } => 22,
         }
     }

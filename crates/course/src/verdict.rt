@@ -9,6 +9,8 @@ use rules::call::Outcome;
 use rules::progress::Progress;
 
 // What the close says, and the head's numbers, or zeros without a head.
+// The flag stands in place of a type with no `Drop`: so the prover, and not the compiler, refuses to let a verdict go,
+// and an edit can try that.
 pub struct Verdict {
     outcome: Outcome,
     head: Head,
@@ -32,12 +34,10 @@ impl Drop for Verdict {
 fn close_at(progress: &Progress) -> Outcome
     ensures { result ≡ closing progress.now }
 {
-    if let Some(finding) = progress.finding {
-        return Outcome::Found(finding);
-    }
-    match left_of(progress) {
-        0 => Outcome::Accepted(progress.head.rows),
-        left => Outcome::Unfinished(left),
+    match (progress.finding, left_of(progress)) {
+        (Some(finding), _) => Outcome::Found(finding),
+        (None, 0) => Outcome::Accepted(progress.head.rows),
+        (None, left) => Outcome::Unfinished(left),
     }
 }
 

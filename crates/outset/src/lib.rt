@@ -30,13 +30,10 @@ const NO_HEAD: Head = Head {
 fn in_limits(head: Head) -> bool
     ensures { result ≡ in_limits head }
 {
-    1 <= head.instructions
-        && head.instructions <= INSTRUCTIONS
+    (1..=INSTRUCTIONS).contains(&head.instructions)
         && head.words <= WORDS
-        && 1 <= head.rows
-        && head.rows <= STEPS
-        && 1 <= head.bound
-        && head.bound <= STEPS
+        && (1..=STEPS).contains(&head.rows)
+        && (1..=STEPS).contains(&head.bound)
         && head.rows <= head.bound
         && head.lines <= head.rows
 }

@@ -21,7 +21,7 @@ use Rattle.rules.specs.Course.{in_limits, stopped, no_head, begun_by, begun, lef
 use Rattle.rules.specs.Laws.{record_or, program, primary, lines, rows, every_unit, Within, HeadWithin, Genuine, Closes, Acceptance, Advancing}
 use Rattle.run_log.specs.Words.{Exactly}
 use Rattle.rules.proofs.Whole.{whole, is_whole}
-use Rattle.rules.proofs.Taking.{no_none, run, reached}
+use Rattle.rules.proofs.Taking.{run, reached}
 use Rattle.rules.proofs.Genuine.{Counts, all_readable, sound_units, complete_units, good_keeps, good_formed, keeps_good}
 use Rattle.rules.proofs.Calls.{either_way, after_found, reach, Counted, made}
 use Rattle.rules.proofs.Calls as calls
@@ -132,10 +132,10 @@ pub record Says (q : Progress) (T : ℕ) : Type 0 where
 
 says_at : (b : Bool) (l n T : ℕ) → cond b (outcome.Accepted n) (outcome.Unfinished l) ≡ outcome.Accepted T → (b ≡ true) × (n ≡ T)
 says_at true l n T e = (refl, cc)
-says_at false l n T e = let z : ◌≡◌ {A = ℕ} 0 1 = cc in absurd (omega arith)
+says_at false l n T e = absurd (cc)
 
 says_by : (f : Option Finding) (l n T : ℕ) → closing_by f l n ≡ outcome.Accepted T → (f ≡ None) × (l ≡ 0) × (n ≡ T)
-says_by (Some f) l n T e = let z : ◌≡◌ {A = ℕ} 0 1 = cc in absurd (omega arith)
+says_by (Some f) l n T e = absurd (cc)
 says_by None l n T e = let (b, t) = says_at (eqb l 0) l n T e in (refl, grind (arith, nat_tests), t)
 
 pub says : (q : Progress) (T : ℕ) → closing q ≡ outcome.Accepted T → Says q T
@@ -151,7 +151,8 @@ accepts q T s =
 never : (m : Meaning) (cs : List Call) (f : Finding) → (begun m).finding ≡ Some f → (T : ℕ) {P : Type 0} → closing (after m cs) ≡ outcome.Accepted T → P
 never m cs f e T c =
     let s = (says (after m cs) T c).none in
-    no_none f (sym e ∙ ap (λ q. q.finding) (sym (after_found m (begun m) f e cs)) ∙ s)
+    let a = after_found m (begun m) f e cs in
+    absurd (cc)
 
 stopped_closes : (m : Meaning) (cs : List Call) (f : Finding) → (begun m).finding ≡ Some f → (HeadWithin m.head → ⊥) → Closes m cs (closing (after m cs))
 stopped_closes m cs f e n = record {
@@ -242,7 +243,7 @@ by_limits m mk h e true lim cs = begun_closes m mk h e lim cs
 by_limits m mk h e false lim cs =
     let s : begun m ≡ stopped h rule.Limits = ap (λ x. begun_by (item_answer part.Head 0 (Some x))) e ∙ rw lim in
     stopped_closes m cs _ (ap (λ q. q.finding) s)
-    (λ w. let t = limits_in h (subst HeadWithin e w) in let z : ◌≡◌ {A = ℕ} 0 1 = cc in omega arith)
+    (λ w. let t = limits_in h (subst HeadWithin e w) in cc)
 
 by_head : (m : Meaning) → Made m → (x : Item Head) → m.head ≡ x → (cs : List Call) → Closes m cs (closing (after m cs))
 by_head m mk (Ok h) e cs = by_limits m mk h e (in_limits h) refl cs

@@ -21,7 +21,7 @@ pub record Tests (T t : ℕ) (ended : Bool) (leaves : ℕ → ℕ) (d : Demand) 
   pub touch : touch_fits leaves d (touch_of r) ≡ true
 
 no : {P : Type 0} → false ≡ true → P
-no e = let z : ◌≡◌ {A = ℕ} 0 1 = cc in absurd (omega arith)
+no e = absurd (cc)
 
 -- a finding's number is not 0
 cond_none : (b : Bool) (x n : ℕ) → cond b x (suc n) ≡ 0 → (b ≡ true) × (x ≡ 0)

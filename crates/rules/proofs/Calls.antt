@@ -12,7 +12,7 @@ use Rattle.rules.specs.declared.call.Refused.{Refused}
 use Rattle.rules.specs.declared.call.Refused.TheVariants as refused-case
 use Rattle.rules.specs.Units.{units}
 use Rattle.rules.specs.Course.{left, refused, refused_by, told, advanced_by, answered_by, advanced, advance_answer, called, after_from, amount, taken_from}
-use Rattle.rules.proofs.Taking.{no_none, taking_add, run, reached}
+use Rattle.rules.proofs.Taking.{taking_add, run, reached}
 
 pub either_way : {X : Type 0} (o : Option X) → (o ≡ None) ⊎ ((x : X) × (o ≡ Some x))
 either_way None = inl refl
@@ -92,7 +92,7 @@ module _ (m : Meaning) (h : Head) where
   none_before p cs e =
       elim (either_way p.finding) [
         | inl n ↦ n
-        | inr (f, s) ↦ no_none f (sym s ∙ ap (λ q. q.finding) (sym (after_found m p f s cs)) ∙ e)
+        | inr (f, s) ↦ let a = after_found m p f s cs in cc
       ]
 
   -- where nothing was found, the answers add up to the units taken

@@ -21,7 +21,7 @@ use Rattle.rules.specs.declared.progress.Stage.{Stage}
 use Rattle.rules.specs.Units.{units, unit_at, entered, needed}
 use Rattle.rules.specs.Checks.{item_at, judged, checked}
 use Rattle.rules.specs.Laws.{Formed}
-use Rattle.rules.proofs.Goes.{went, was_there, no_ok}
+use Rattle.rules.proofs.Goes.{went, was_there}
 use Rattle.rules.proofs.Whole.{whole}
 use Rattle.rules.proofs.Places.{following, at_instruction, at_word, at_line, at_row, by_part}
 use Rattle.rules.proofs.AtRow.{Fine}
@@ -32,7 +32,7 @@ use Rattle.rules.proofs.Taking.{run, all_passed, passed, goes_on}
 
 answered : {R : Type 0} (q : Part) (n : ℕ) (x : Item R) (r : R) → item_answer q n (Some x) ≡ Ok r → IsRecord x
 answered q n (Ok r') r e = tt
-answered q n (Err l) r e = no_ok _ r e
+answered q n (Err l) r e = absurd (cc)
 
 -- a list whose every question was answered has a record at each place
 all_there : {R : Type 0} (q : Part) (xs : List (Item R)) → ((k : ℕ) → k < length xs → (n : ℕ) × ((r : R) × (item_answer q n (slice_get xs k) ≡ Ok r))) → Each IsRecord xs

@@ -10,16 +10,13 @@ use Rattle.rules.specs.Units.{units, unit_at, entered}
 use Rattle.rules.specs.Checks.{checked}
 use Rattle.rules.specs.Course.{ready, moved, took, onward, taking}
 
-pub no_none : {X : Type 0} {P : Type 0} (x : X) → Some x ≡ None → P
-no_none x e = let z : ◌≡◌ {A = ℕ} 0 1 = cc in absurd (omega arith)
-
 ok_of : (q : Progress) (c : Result Stage Finding) → (moved q c).finding ≡ None → (s : Stage) × (c ≡ Ok s)
 ok_of q (Ok s) e = (s, refl)
-ok_of q (Err g) e = no_none g e
+ok_of q (Err g) e = absurd (cc)
 
 none_of : (m : Meaning) (q : Progress) (f : Option Finding) → q.finding ≡ f → (onward m q f).finding ≡ None → f ≡ None
 none_of m q None i e = refl
-none_of m q (Some g) i e = no_none g (sym i ∙ e)
+none_of m q (Some g) i e = cc
 
 -- taking a units and then b is taking a + b
 pub taking_add : (m : Meaning) (p : Progress) (a b : ℕ) → taking m (taking m p a) b ≡ taking m p (a + b)

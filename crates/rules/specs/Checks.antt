@@ -153,15 +153,6 @@ checked_row m h w s ended r =
     (λ _. then (got_at m h w s (asked o s) r)
     (λ g. Ok (stepped o g s))))))
 
--- the same from the step's operation on
-abbrev pub checked_operation : Meaning → Head → progress.Unit → Cpu → Bool → Row → Operation → Result Cpu Finding
-checked_operation m h w s ended r o =
-    then (checked_step h.rows w ended (left o s) (asked o s) r)
-    (λ _. then (checked_origin m h w r)
-    (λ _. then (checked_next m h w (touch_of r).next)
-    (λ _. then (got_at m h w s (asked o s) r)
-    (λ g. Ok (stepped o g s)))))
-
 -- UNITS
 
 -- the unit's own item

@@ -3,3 +3,4 @@ pub mod Checks
 pub mod Course
 pub mod Cases
 pub mod Laws
+pub mod Text

@@ -1,5 +1,9 @@
 // Findings: the first rule that a dossier breaks, and where.
+ghost use Rattle.std.specs.Prelude.{◌≡◌, Some};
+ghost use Rattle.rules.specs.Text.{rule_number, finding_text};
+
 use dossier::refusal::{Fault, Part};
+use std::fmt;
 
 // The rules, by the numbers of their findings. Number 22 is an item that cannot be read.
 #[derive(Clone, Copy, PartialEq, Debug)]
@@ -44,4 +48,40 @@ pub enum Finding {
         place: u32,
         fault: Fault,
     },
+}
+
+impl From<Rule> for u8 {
+    ghost from_gives = { λ rule number. number ≡ rule_number rule };
+
+    fn from(rule: Rule) -> u8 {
+        rule as u8
+    }
+}
+
+// A finding's number, part and place, and for an unreadable item the whole fault.
+impl fmt::Display for Finding {
+    ghost output = { λ x. Some (finding_text x) };
+
+    fn fmt<W: fmt::Write>(&self, f: &mut fmt::Formatter<W>) -> fmt::Result {
+        match *self {
+            Finding::Broken { rule, part, place } => {
+                let number = u8::from(rule);
+                let part = part as u8;
+                write!(f, "{number} {part} {place}")
+            }
+            Finding::Unreadable { part, place, fault } => {
+                let part = part as u8;
+                let Fault {
+                    part: fault_part,
+                    place: fault_place,
+                    layer,
+                } = fault;
+                let fault_part = fault_part as u8;
+                write!(
+                    f,
+                    "22 {part} {place} fault {fault_part} {fault_place} {layer}"
+                )
+            }
+        }
+    }
 }

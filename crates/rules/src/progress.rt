@@ -5,7 +5,7 @@ use encoding::instruction::Instruction;
 use machine::cpu::Cpu;
 
 // What is taken and checked at once: an item, by its part and its place there.
-#[derive(Clone, Copy)]
+#[derive(Clone, Copy, PartialEq, Debug)]
 pub enum Unit {
     Instruction(u32),
     Word(u32),
@@ -14,7 +14,7 @@ pub enum Unit {
 }
 
 // An item that was read.
-#[derive(Clone, Copy)]
+#[derive(Clone, Copy, PartialEq, Debug)]
 pub enum Item {
     Instruction(Instruction),
     Word(u32),

@@ -5,10 +5,6 @@ use Rattle.std.proofs.lemmas.Bool.{cases_lt, cases_Bool}
 use Rattle.run_log.specs.Log.{latest, first_after}
 use Rattle.run_log.specs.Words.{IsLast, IsNext}
 
-pub false_since : (b : Bool) → (b ≡ true → ⊥) → b ≡ false
-false_since true h = absurd (h refl)
-false_since false h = refl
-
 module _ (p : ℕ → Bool) where
   pub last_cases : (t : ℕ) → ((u : ℕ) → u < t → p u ≡ false) ⊎ ((s : ℕ) × IsLast p t s)
   last_cases zero = inl (λ u l. absurd (omega arith))

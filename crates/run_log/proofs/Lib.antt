@@ -9,3 +9,4 @@ pub mod Tests
 pub mod Along
 pub mod RunSound
 pub mod RunComplete
+mod Each

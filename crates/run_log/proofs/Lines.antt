@@ -3,7 +3,7 @@
 use Rattle.std.proofs.Common.{◌≡◌, ℕ, zero, suc, ◌<◌, ◌≤◌, true, false, eqb, ◌⊎◌, List, [], ◌∷◌, length, get_or, sym, refl, ap, ◌∙◌, inl, inr, arith}
 use lib.ListN.{get_or-eq_default}
 use Rattle.std.proofs.lemmas.Bool.{cases_lt, cases_order, eqb-true, lt-ltb, le-ltb, eq-eqb, ne_eqb}
-use Rattle.run_log.proofs.Find.{false_since}
+use Rattle.std.proofs.lemmas.Bool.{false_from_ne_true}
 use Rattle.dossier.specs.declared.record.Line.{Line}
 use Rattle.run_log.specs.Log.{Event, quiet, word, ended, touch, event_at, hits, touches, add_line, open_for, openings, log_lines, line_of}
 use Rattle.run_log.specs.Rules.{line_at}
@@ -132,8 +132,8 @@ same_lines (x ∷ xs) (y ∷ ys) rx ry f g =
 pub one_first : (es : List Event) (c s t : ℕ) → IsFirst es c s → IsFirst es c t → s ≡ t
 one_first es c s t f g = elim (cases_order s t) [
   | inl e ↦ e
-  | inr (inl h) ↦ let x = g.none s h in let z : ◌≡◌ {A = ℕ} 0 1 = cc in absurd (omega arith)
-  | inr (inr h) ↦ let x = f.none t h in let z : ◌≡◌ {A = ℕ} 0 1 = cc in absurd (omega arith)
+  | inr (inl h) ↦ let x = g.none s h in absurd (cc)
+  | inr (inr h) ↦ let x = f.none t h in absurd (cc)
 ]
 
 same_opens_in : (es : List Event) (xs ys : List Line) → Opens es xs → Opens es ys → Among xs ys
@@ -150,13 +150,12 @@ same_opens es xs ys f g = same_lines xs ys f.rising g.rising (same_opens_in es x
 
 -- a touch is inside the run
 pub touch_inside : (es : List Event) (c s : ℕ) → touches es c s ≡ true → (1 ≤ s) × (s ≤ length es)
-touch_inside es c zero e = let z : ◌≡◌ {A = ℕ} 0 1 = cc in absurd (omega arith)
+touch_inside es c zero e = absurd (cc)
 touch_inside es c (suc i) e = elim (cases_lt i (length es)) [
   | inl h ↦ (omega arith, h)
   | inr h ↦
       let d : get_or es i quiet ≡ quiet = get_or-eq_default es quiet h in
-      let z : ◌≡◌ {A = ℕ} 0 1 = cc in
-      absurd (omega arith)
+      absurd (cc)
 ]
 
 -- what `openings` has of the steps up to t
@@ -174,8 +173,7 @@ opened_same es t ls o f = record {
     | inl l ↦
         let z : s ≡ suc t = omega arith in
         let n = f c in
-        let y : ◌≡◌ {A = ℕ} 0 1 = cc in
-        absurd (omega arith)
+        absurd (cc)
     | inr l ↦ o.all c s l e
   ];
 }
@@ -189,7 +187,7 @@ opened_more es t ls o (touch d a) e = record {
   each = every_add (λ l. IsFirst es l.cell l.step) d (suc t) ls o.rises o.each
       (λ n. record {
         hit = ap (hits d) e ∙ eq-eqb d d refl;
-        none = λ u l. false_since (touches es d u) (λ x. n (o.all d u (omega arith) x));
+        none = λ u l. false_from_ne_true (touches es d u) (λ x. n (o.all d u (omega arith) x));
       });
   all = λ c s h x. elim (cases_lt t s) [
     | inl l ↦

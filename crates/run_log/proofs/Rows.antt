@@ -27,11 +27,11 @@ row_inside rs (suc i) h = elim (cases_lt i (length rs)) [
 
 -- a row that shows a touch of c is a touch of c
 pub touched : (r : Row) (c : ℕ) → hits c (event_of r) ≡ true → (1 ≤ kind_of r) × (kind_of r ≤ 2) × ((touch_of r).cell ≡ c)
-touched Plain c e = let z : ◌≡◌ {A = ℕ} 0 1 = cc in absurd (omega arith)
+touched Plain c e = absurd (cc)
 touched (FromLine x) c e = (omega arith, omega arith, eqb-true x.cell c e)
 touched (FromStep x) c e = (omega arith, omega arith, eqb-true x.cell c e)
-touched (Advice w) c e = let z : ◌≡◌ {A = ℕ} 0 1 = cc in absurd (omega arith)
-touched AdviceEnd c e = let z : ◌≡◌ {A = ℕ} 0 1 = cc in absurd (omega arith)
+touched (Advice w) c e = absurd (cc)
+touched AdviceEnd c e = absurd (cc)
 
 pub hitting : (r : Row) (c : ℕ) → (1 ≤ kind_of r) × (kind_of r ≤ 2) × ((touch_of r).cell ≡ c) → hits c (event_of r) ≡ true
 hitting Plain c h = absurd (omega arith)

@@ -22,7 +22,7 @@ heard_end initial es t (w ∷ ws) e = absurd (omega arith)
 hears : (initial : ℕ → ℕ) (es : List Event) (rs : List Row) (t : ℕ) (ws : List ℕ) →
     ((ws ≡ [] → ⊥) → (u : ℕ) → u < t → kind_of (row_at rs u) ≡ 4 → ⊥) → Hears rs t (row_of initial es t (heard ws))
 hears initial es rs t [] h = tt
-hears initial es rs t (w ∷ ws) h = h (λ e. let z : ◌≡◌ {A = ℕ} 0 1 = cc in omega arith)
+hears initial es rs t (w ∷ ws) h = h (λ e. cc)
 
 module _ {S : Type 0} (M : Machine S) (rs : List Row) (ls : List Line) (ws : List ℕ) (l : Logs M rs ls ws) where
   abbrev es : List Event
@@ -72,16 +72,16 @@ module _ {S : Type 0} (M : Machine S) (rs : List Row) (ls : List Line) (ws : Lis
 
   fit : (i : ℕ) → i < length rs → (d : Demand) → asked M (after M ws i) ≡ d →
       RowFits (M.leaves (after M ws i).state) rs (suc i) d (row_of M.initial es (suc i) (shown M d (after M ws i)))
-  fit i h alone q = (not_last i alone h q (λ e. let z : ◌≡◌ {A = ℕ} 0 1 = cc in omega arith), refl)
+  fit i h alone q = (not_last i alone h q (λ e. cc), refl)
   fit i h advice q = (
-    not_last i advice h q (λ e. let z : ◌≡◌ {A = ℕ} 0 1 = cc in omega arith),
+    not_last i advice h q (λ e. cc),
     hears M.initial es rs (suc i) (after M ws i).tape (no_end i h),
   )
   fit i h (access c) q =
       let g = after M ws i in
       let k = touch_row M.initial es (suc i) c (M.leaves g.state (g.memory c)) in
       let m = (along i (omega arith)).cells c in (
-        not_last i (access c) h q (λ e. let z : ◌≡◌ {A = ℕ} 0 1 = cc in omega arith),
+        not_last i (access c) h q (λ e. cc),
         record { touch = k.touch; cell = k.cell; after = k.after ∙ ap (M.leaves g.state) (m ∙ sym k.before) },
       )
   fit i h (answer v) q = elim (cases_lt (suc i) (length rs)) [

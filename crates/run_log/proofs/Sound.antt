@@ -11,7 +11,7 @@ use Rattle.run_log.specs.Log.{Event, event_at, hits, left, touches, log_rows, lo
 use Rattle.run_log.specs.Rules.{row_at, line_at, kind_of, touch_of, LineOrder, LineOrigin, StepOrigin, NextLink, RowLinks, Linked, Sound, Unique}
 use Rattle.run_log.specs.Words.{IsLast, NoneBefore, After, Rising, Opens, Records, InRows}
 use Rattle.run_log.proofs.Chain.{Chained, At, first_is_first, origin_last, next_none, next_some, line_at_lem, line_for}
-use Rattle.run_log.proofs.Find.{false_since}
+use Rattle.std.proofs.lemmas.Bool.{false_from_ne_true}
 use Rattle.run_log.proofs.Rows.{event_row, row_inside, touched, hitting, left_is, length_events}
 use Rattle.run_log.proofs.Worded.{rows_are, lines_are}
 
@@ -78,7 +78,7 @@ module _ (initial : ℕ → ℕ) (rs : List Row) (ls : List Line) (ok : Linked i
   from_at c t h = ap (hits c) (event_row rs t) ∙ hitting (row_at rs t) c h
 
   not_at : (c t : ℕ) → (At chained c t → ⊥) → touches es c t ≡ false
-  not_at c t h = false_since (touches es c t) (λ e. h (to_at c t e))
+  not_at c t h = false_from_ne_true (touches es c t) (λ e. h (to_at c t e))
 
   -- LINES
 

@@ -101,10 +101,10 @@ none_log initial rs ls = (
 
 pub plain_row : (r : Row) → Exactly (plain_finding r ≡ 0) (r ≡ Plain)
 plain_row Plain = (λ e. refl, λ h. refl)
-plain_row (FromLine x) = (λ e. absurd (omega arith), λ h. let z : ◌≡◌ {A = ℕ} 0 1 = cc in absurd (omega arith))
-plain_row (FromStep x) = (λ e. absurd (omega arith), λ h. let z : ◌≡◌ {A = ℕ} 0 1 = cc in absurd (omega arith))
-plain_row (Advice w) = (λ e. absurd (omega arith), λ h. let z : ◌≡◌ {A = ℕ} 0 1 = cc in absurd (omega arith))
-plain_row AdviceEnd = (λ e. absurd (omega arith), λ h. let z : ◌≡◌ {A = ℕ} 0 1 = cc in absurd (omega arith))
+plain_row (FromLine x) = (λ e. absurd (omega arith), λ h. absurd (cc))
+plain_row (FromStep x) = (λ e. absurd (omega arith), λ h. absurd (cc))
+plain_row (Advice w) = (λ e. absurd (omega arith), λ h. absurd (cc))
+plain_row AdviceEnd = (λ e. absurd (omega arith), λ h. absurd (cc))
 
 -- no advice end among the first i rows
 pub not_ended : (rs : List Row) (i : ℕ) → ended_by rs i ≡ false → (u : ℕ) → u < suc i → kind_of (row_at rs u) ≡ 4 → ⊥

@@ -8,7 +8,8 @@ use Rattle.dossier.specs.declared.record.Line.{Line}
 use Rattle.run_log.specs.Log.{Event, quiet, word, ended, touch, event_at, hits, left, touches, memory, touch_before, touch_after, line_of, log_lines, row_of, log_rows}
 use Rattle.run_log.specs.Rules.{row_at}
 use Rattle.run_log.specs.Words.{Exactly, IsLast, IsNext, NoneBefore, Before, After, Holds, LineFor, Opens, Records, InRows, Worded}
-use Rattle.run_log.proofs.Find.{false_since, last_cases, latest_none, latest_is, next_cases, after_none, after_is}
+use Rattle.std.proofs.lemmas.Bool.{false_from_ne_true}
+use Rattle.run_log.proofs.Find.{last_cases, latest_none, latest_is, next_cases, after_none, after_is}
 use Rattle.run_log.proofs.Lines.{line_of_lem, same_opens, log_opens, touch_inside}
 use Rattle.run_log.proofs.Rows.{log_row, length_log, same_rows}
 
@@ -33,11 +34,10 @@ module _ (es : List Event) (c t : ℕ) where
   after_of = elim (next_cases (touches es c) t (length es - t)) [
     | inl n ↦ inl (
       after_none (touches es c) t (length es - t) n,
-      λ u l. false_since (touches es c u) (λ e.
+      λ u l. false_from_ne_true (touches es c u) (λ e.
           let i = touch_inside es c u e in
           let f = n u l (omega arith) in
-          let z : ◌≡◌ {A = ℕ} 0 1 = cc in
-          omega arith),
+          cc),
     )
     | inr h ↦ inr (subst (IsNext (touches es c) t) (sym (after_is (touches es c) t (length es - t) h.0 h.1 h.2)) h.1)
   ]

@@ -1,20 +1,48 @@
 // The link rules, tried on rows and lines that are at hand.
-ghost use Rattle.std.specs.Prelude.{◌≡◌, ◌<◌, length, Decides};
+ghost use Rattle.std.specs.Prelude.{◌≡◌, ◌<◌, ◌==◌, length, Decides};
 ghost use Rattle.run_log.specs.Log.{zeroed, IsLog};
-ghost use Rattle.run_log.specs.Rules.{row_at, test_line_order, test_line_step, test_line_origin, test_step_origin, test_next_link};
+ghost use Rattle.run_log.specs.Rules.{row_at, from_line, from_step, leads_to};
+ghost use Rattle.run_log.specs.Rules.{test_line_order, test_line_step, test_line_origin, test_step_origin, test_next_link};
 ghost use Rattle.run_log.specs.Rules.{line_finding, link_finding, LinesPass, RowsPass};
 
 use dossier::record::{Line, Row, Touch};
+
+// Whether the row is a touch from this line.
+pub fn is_from_line(row: Row, line: u64) -> bool
+    ensures { result ≡ from_line line row }
+{
+    matches!(row, Row::FromLine(touch) if u64::from(touch.origin) == line)
+}
+
+// Whether the row is a touch from this step.
+pub fn is_from_step(row: Row, step: u64) -> bool
+    ensures { result ≡ from_step step row }
+{
+    matches!(row, Row::FromStep(touch) if u64::from(touch.origin) == step)
+}
+
+// Whether the row is a touch of the same cell that leaves what `touch` finds and leads on to this step.
+pub fn leads_to(row: Row, touch: Touch, step: u64) -> bool
+    ensures { result ≡ leads_to step touch row }
+{
+    match row {
+        Row::FromLine(former) | Row::FromStep(former) => {
+            former.cell == touch.cell
+                && former.after == touch.before
+                && u64::from(former.next) == step
+        }
+        _ => false,
+    }
+}
 
 // Row `t`, counted from 1; outside the log there is no touch.
 fn row_at(rows: &[Row], t: usize) -> Row
     ensures { result ≡ row_at rows.now t }
 {
-    if t == 0 {
-        return Row::Plain;
-    }
-    let i = t - 1;
-    if i < rows.len() { rows[i] } else { Row::Plain }
+    t.checked_sub(1)
+        .and_then(|i| rows.get(i))
+        .copied()
+        .unwrap_or(Row::Plain)
 }
 
 // Rule 24: the line's cell is a multiple of 4 and above the former line's.
@@ -30,23 +58,16 @@ fn opens_row(rows: &[Row], j: usize, line: Line) -> bool
     ensures { result ≡ test_line_step rows.now j line }
 {
     let step = line.step as usize;
-    if step == 0 || step > rows.len() {
-        return false;
-    }
-    match row_at(rows, step) {
-        Row::FromLine(touch) => touch.origin as usize == j,
-        _ => false,
-    }
+    (1..=rows.len()).contains(&step) && is_from_line(row_at(rows, step), j as u64)
 }
 
 // Rule 31 of a touch from a line: the line has its cell and step, and the cell was still 0.
 fn comes_from_line(lines: &[Line], t: usize, touch: Touch) -> bool
     ensures { result ≡ test_line_origin zeroed lines.now t touch }
 {
-    let j = touch.origin as usize;
-    j < lines.len()
-        && lines[j].cell == touch.cell
-        && lines[j].step as usize == t
+    lines
+        .get(touch.origin as usize)
+        .is_some_and(|line| line.cell == touch.cell && line.step as usize == t)
         && touch.before == 0
 }
 
@@ -55,60 +76,33 @@ fn comes_from_step(rows: &[Row], t: usize, touch: Touch) -> bool
     ensures { result ≡ test_step_origin rows.now t touch }
 {
     let origin = touch.origin as usize;
-    if origin >= t {
-        return false;
-    }
-    match row_at(rows, origin) {
-        Row::FromLine(from) | Row::FromStep(from) => {
-            from.cell == touch.cell && from.after == touch.before && from.next as usize == t
-        }
-        _ => false,
-    }
+    origin < t && leads_to(row_at(rows, origin), touch, t as u64)
 }
 
 // Rule 32: next is 0, or a later touch from this step.
 fn leads_on(rows: &[Row], t: usize, touch: Touch) -> bool
     ensures { result ≡ test_next_link rows.now t touch }
 {
-    if touch.next == 0 {
-        return true;
-    }
     let next = touch.next as usize;
-    match row_at(rows, next) {
-        Row::FromStep(to) => next > t && to.origin as usize == t,
-        _ => false,
-    }
+    next == 0 || t < next && is_from_step(row_at(rows, next), t as u64)
 }
 
-// The number of the first rule that line `j` breaks, or 0.
-fn line_finding(rows: &[Row], lines: &[Line], j: usize) -> u8
+// Whether line `j` keeps its rules.
+fn line_keeps(rows: &[Row], lines: &[Line], j: usize) -> bool
     requires { j < length lines.now }
-    ensures { result ≡ line_finding rows.now lines.now j }
+    ensures { result ≡ (line_finding rows.now lines.now j == 0) }
 {
-    if !keeps_order(lines, j) {
-        24
-    } else if opens_row(rows, j, lines[j]) {
-        0
-    } else {
-        25
-    }
+    keeps_order(lines, j) && opens_row(rows, j, lines[j])
 }
 
-// The number of the first link rule that row `t` breaks, or 0.
-fn link_finding(rows: &[Row], lines: &[Line], t: usize) -> u8
-    ensures { result ≡ link_finding zeroed rows.now lines.now t (row_at rows.now t) }
+// Whether row `t` keeps its link rules.
+fn row_keeps(rows: &[Row], lines: &[Line], t: usize) -> bool
+    ensures { result ≡ (link_finding zeroed rows.now lines.now t (row_at rows.now t) == 0) }
 {
-    let (touch, comes) = match row_at(rows, t) {
-        Row::FromLine(touch) => (touch, comes_from_line(lines, t, touch)),
-        Row::FromStep(touch) => (touch, comes_from_step(rows, t, touch)),
-        _ => return 0,
-    };
-    if !comes {
-        31
-    } else if leads_on(rows, t, touch) {
-        0
-    } else {
-        32
+    match row_at(rows, t) {
+        Row::FromLine(touch) => comes_from_line(lines, t, touch) && leads_on(rows, t, touch),
+        Row::FromStep(touch) => comes_from_step(rows, t, touch) && leads_on(rows, t, touch),
+        _ => true,
     }
 }
 
@@ -116,24 +110,14 @@ fn link_finding(rows: &[Row], lines: &[Line], t: usize) -> u8
 fn lines_keep(rows: &[Row], lines: &[Line]) -> bool
     ensures { Decides result (LinesPass rows.now lines.now) }
 {
-    for j in 0..lines.len() {
-        if line_finding(rows, lines, j) != 0 {
-            return false;
-        }
-    }
-    true
+    (0..lines.len()).all(|j| line_keeps(rows, lines, j))
 }
 
 // Whether each row keeps its link rules.
 fn rows_keep(rows: &[Row], lines: &[Line]) -> bool
     ensures { Decides result (RowsPass zeroed rows.now lines.now) }
 {
-    for i in 0..rows.len() {
-        if link_finding(rows, lines, i + 1) != 0 {
-            return false;
-        }
-    }
-    true
+    (0..rows.len()).all(|i| row_keeps(rows, lines, i + 1))
 }
 
 // Whether rows and lines keep the link rules: they do exactly when they are the log of what

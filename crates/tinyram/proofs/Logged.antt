@@ -12,11 +12,11 @@ abbrev tape : List ℕ
 tape = 7 ∷ []
 
 no_answer : (i : ℕ) (a : Operand) → suc i < 6 → executed sample_program [] tape i ≡ Answer a → ⊥
-no_answer zero a l e = let z : ◌≡◌ {A = ℕ} 0 1 = cc in omega arith
-no_answer (suc zero) a l e = let z : ◌≡◌ {A = ℕ} 0 1 = cc in omega arith
-no_answer (suc (suc zero)) a l e = let z : ◌≡◌ {A = ℕ} 0 1 = cc in omega arith
-no_answer (suc (suc (suc zero))) a l e = let z : ◌≡◌ {A = ℕ} 0 1 = cc in omega arith
-no_answer (suc (suc (suc (suc zero)))) a l e = let z : ◌≡◌ {A = ℕ} 0 1 = cc in omega arith
+no_answer zero a l e = cc
+no_answer (suc zero) a l e = cc
+no_answer (suc (suc zero)) a l e = cc
+no_answer (suc (suc (suc zero))) a l e = cc
+no_answer (suc (suc (suc (suc zero)))) a l e = cc
 no_answer (suc (suc (suc (suc (suc i))))) a l e = omega arith
 
 pub sample_log : SampleLog sample_program

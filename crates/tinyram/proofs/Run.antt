@@ -42,32 +42,32 @@ operand_in (Answer a) = a
 
 -- the cell that is asked for is the operand's
 pub cell_asked : (o : Operation) (s : Cpu) (c : ℕ) → outside (asked o s) ≡ access c → c ≡ cell_of (value_of s (operand_in o))
-cell_asked (Compute b i j a) s c e = let z : ◌≡◌ {A = ℕ} 0 1 = cc in absurd (omega arith)
-cell_asked (Not i a) s c e = let z : ◌≡◌ {A = ℕ} 0 1 = cc in absurd (omega arith)
-cell_asked (Compare b j a) s c e = let z : ◌≡◌ {A = ℕ} 0 1 = cc in absurd (omega arith)
-cell_asked (Move i a) s c e = let z : ◌≡◌ {A = ℕ} 0 1 = cc in absurd (omega arith)
-cell_asked (MoveIfFlag i a) s c e = let z : ◌≡◌ {A = ℕ} 0 1 = cc in absurd (omega arith)
-cell_asked (Jump w a) s c e = let z : ◌≡◌ {A = ℕ} 0 1 = cc in absurd (omega arith)
+cell_asked (Compute b i j a) s c e = absurd (cc)
+cell_asked (Not i a) s c e = absurd (cc)
+cell_asked (Compare b j a) s c e = absurd (cc)
+cell_asked (Move i a) s c e = absurd (cc)
+cell_asked (MoveIfFlag i a) s c e = absurd (cc)
+cell_asked (Jump w a) s c e = absurd (cc)
 cell_asked (Store z i a) s c e = cc
 cell_asked (Load z i a) s c e = cc
 cell_asked (Read i a) s c e =
     absurd (tape_asks (eqb (value_of s a) 0) (eqb (value_of s a) 1) (λ d. d ≡ access c → ⊥)
-    (λ e. let z : ◌≡◌ {A = ℕ} 0 1 = cc in omega arith) (λ e. let z : ◌≡◌ {A = ℕ} 0 1 = cc in omega arith) e)
-cell_asked (Answer a) s c e = let z : ◌≡◌ {A = ℕ} 0 1 = cc in absurd (omega arith)
+    (λ e. cc) (λ e. cc) e)
+cell_asked (Answer a) s c e = absurd (cc)
 
 -- only `answer` answers
 answer_asked : (o : Operation) (s : Cpu) (v : ℕ) → outside (asked o s) ≡ answer v → (a : Operand) × (o ≡ Answer a) × (value_of s a ≡ v)
-answer_asked (Compute b i j a) s v e = let z : ◌≡◌ {A = ℕ} 0 1 = cc in absurd (omega arith)
-answer_asked (Not i a) s v e = let z : ◌≡◌ {A = ℕ} 0 1 = cc in absurd (omega arith)
-answer_asked (Compare b j a) s v e = let z : ◌≡◌ {A = ℕ} 0 1 = cc in absurd (omega arith)
-answer_asked (Move i a) s v e = let z : ◌≡◌ {A = ℕ} 0 1 = cc in absurd (omega arith)
-answer_asked (MoveIfFlag i a) s v e = let z : ◌≡◌ {A = ℕ} 0 1 = cc in absurd (omega arith)
-answer_asked (Jump w a) s v e = let z : ◌≡◌ {A = ℕ} 0 1 = cc in absurd (omega arith)
-answer_asked (Store z i a) s v e = let z : ◌≡◌ {A = ℕ} 0 1 = cc in absurd (omega arith)
-answer_asked (Load z i a) s v e = let z : ◌≡◌ {A = ℕ} 0 1 = cc in absurd (omega arith)
+answer_asked (Compute b i j a) s v e = absurd (cc)
+answer_asked (Not i a) s v e = absurd (cc)
+answer_asked (Compare b j a) s v e = absurd (cc)
+answer_asked (Move i a) s v e = absurd (cc)
+answer_asked (MoveIfFlag i a) s v e = absurd (cc)
+answer_asked (Jump w a) s v e = absurd (cc)
+answer_asked (Store z i a) s v e = absurd (cc)
+answer_asked (Load z i a) s v e = absurd (cc)
 answer_asked (Read i a) s v e =
     absurd (tape_asks (eqb (value_of s a) 0) (eqb (value_of s a) 1) (λ d. d ≡ answer v → ⊥)
-    (λ e. let z : ◌≡◌ {A = ℕ} 0 1 = cc in omega arith) (λ e. let z : ◌≡◌ {A = ℕ} 0 1 = cc in omega arith) e)
+    (λ e. cc) (λ e. cc) e)
 answer_asked (Answer a) s v e = let k : value_of s a ≡ v = cc in (a, refl, k)
 
 pub fourths : (p : List Instruction) (primary : List ℕ) → Fourths (tinyram p primary)

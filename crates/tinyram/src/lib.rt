@@ -11,7 +11,7 @@ ghost use Rattle.tinyram.specs.Words.{ProgramWords, ProgramDecided};
 // run has a log, with a row for each step, and equal advice words make equal logs. To accept is to
 // execute `answer 0` after steps that do not answer. Every number of a log is a word where the
 // program and the tapes are words, and rows of words log a run on a tape of words.
-pub fn programs_stand() -> u8
+pub fn programs_stand()
     ensures accepting { Accepting }
     ensures sound { ProgramSound }
     ensures complete { ProgramComplete }
@@ -20,6 +20,4 @@ pub fn programs_stand() -> u8
     ensures unique { ProgramUnique }
     ensures words { ProgramWords }
     ensures decided { ProgramDecided }
-{
-    0
-}
+{}

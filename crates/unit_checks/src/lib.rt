@@ -1,9 +1,9 @@
 // The check of one unit of a dossier: its item, and its rules in their order.
 #![tactic(auto)]
 
-pub mod item;
-pub mod line;
+mod item;
+mod line;
 mod link;
-pub mod row;
+mod row;
 mod step;
-pub mod unit;
+pub mod turn;

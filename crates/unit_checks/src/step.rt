@@ -4,13 +4,20 @@ ghost use Rattle.machine.specs.Effects.{left};
 ghost use Rattle.rules.specs.Checks.{only_zero, halts_last, kind_fits, advice_fits, touch_fits, checked_step};
 ghost use Rattle.run_log.specs.Rules.{touch_of};
 
-use crate::unit::{check, step_of};
+use crate::turn::Turn;
 use dossier::record::{Row, Touch};
 use encoding::operation::Operation;
 use machine::cpu::Cpu;
 use machine::step::{Demand, after};
 use rules::finding::{Finding, Rule};
-use rules::progress::Unit;
+
+// A step that is tried: its operation, what that demands, and the row that logs it.
+#[derive(Clone, Copy)]
+pub(crate) struct Step {
+    pub operation: Operation,
+    pub demand: Demand,
+    pub row: Row,
+}
 
 // What the row says of a touch; a row of another kind says 0.
 pub(crate) fn touch_of(row: Row) -> Touch
@@ -28,76 +35,68 @@ pub(crate) fn touch_of(row: Row) -> Touch
     }
 }
 
-// Rule 26.
-fn answers_only_zero(demand: Demand) -> bool
-    ensures { result ≡ only_zero demand }
-{
-    match demand {
-        Demand::Halt(answer) => answer == 0,
-        _ => true,
+impl Step {
+    // Rule 26.
+    fn answers_only_zero(self) -> bool
+        ensures { result ≡ only_zero self.demand }
+    {
+        !matches!(self.demand, Demand::Halt(answer) if answer != 0)
     }
-}
 
-// Rule 27, at row `step` of `rows`, counted from 1.
-fn halts_last(rows: u32, step: u64, demand: Demand) -> bool
-    ensures { result ≡ halts_last rows step demand }
-{
-    match demand {
-        Demand::Halt(_) => step == u64::from(rows),
-        _ => step < u64::from(rows),
-    }
-}
-
-// Rule 28: both kinds of touch count as one.
-fn fits_kind(demand: Demand, row: Row) -> bool
-    ensures { result ≡ kind_fits demand row }
-{
-    match demand {
-        Demand::Cell(_) => matches!(row, Row::FromLine(_) | Row::FromStep(_)),
-        Demand::Advice => matches!(row, Row::Advice(_) | Row::AdviceEnd),
-        _ => matches!(row, Row::Plain),
-    }
-}
-
-// Rule 29.
-fn fits_advice(ended: bool, row: Row) -> bool
-    ensures { result ≡ advice_fits ended row }
-{
-    match row {
-        Row::Advice(_) => !ended,
-        _ => true,
-    }
-}
-
-// Rule 30.
-fn fits_touch(operation: Operation, cpu: &Cpu, demand: Demand, touch: Touch) -> bool
-    ensures { result ≡ touch_fits (left operation cpu.now) demand touch }
-{
-    match demand {
-        Demand::Cell(cell) => {
-            touch.cell == cell && touch.after == after(operation, cpu, touch.before)
+    // Rule 27, at row `number` of `rows`, counted from 1.
+    fn halts_last(self, rows: u32, number: u64) -> bool
+        ensures { result ≡ halts_last rows number self.demand }
+    {
+        match self.demand {
+            Demand::Halt(_) => number == u64::from(rows),
+            _ => number < u64::from(rows),
         }
-        _ => true,
+    }
+
+    // Rule 28: both kinds of touch count as one.
+    fn fits_kind(self) -> bool
+        ensures { result ≡ kind_fits self.demand self.row }
+    {
+        match self.demand {
+            Demand::Cell(_) => matches!(self.row, Row::FromLine(_) | Row::FromStep(_)),
+            Demand::Advice => matches!(self.row, Row::Advice(_) | Row::AdviceEnd),
+            _ => self.row == Row::Plain,
+        }
+    }
+
+    // Rule 29.
+    fn fits_advice(self, ended: bool) -> bool
+        ensures { result ≡ advice_fits ended self.row }
+    {
+        !(ended && matches!(self.row, Row::Advice(_)))
+    }
+
+    // Rule 30.
+    fn fits_touch(self, cpu: &Cpu) -> bool
+        ensures { result ≡ touch_fits (left self.operation cpu.now) self.demand (touch_of self.row) }
+    {
+        let touch = touch_of(self.row);
+        match self.demand {
+            Demand::Cell(cell) => {
+                touch.cell == cell && touch.after == after(self.operation, cpu, touch.before)
+            }
+            _ => true,
+        }
     }
 }
 
-// Rules 26 to 30, of a log of `rows` rows.
-pub(crate) fn check_step(
-    rows: u32,
-    unit: Unit,
-    ended: bool,
-    operation: Operation,
-    cpu: &Cpu,
-    demand: Demand,
-    row: Row,
-) -> Result<(), Finding>
-    ensures { result ≡ checked_step rows unit ended (left operation cpu.now) demand row }
-{
-    let step = step_of(unit);
-    let touch = touch_of(row);
-    check(unit, answers_only_zero(demand), Rule::OtherAnswer)?;
-    check(unit, halts_last(rows, step, demand), Rule::LastAnswer)?;
-    check(unit, fits_kind(demand, row), Rule::Kind)?;
-    check(unit, fits_advice(ended, row), Rule::AdviceEnd)?;
-    check(unit, fits_touch(operation, cpu, demand, touch), Rule::Touch)
+impl Turn {
+    // Rules 26 to 30.
+    pub(crate) fn check_step(self, step: Step, cpu: &Cpu, ended: bool) -> Result<(), Finding>
+        ensures { result ≡ checked_step self.head.rows self.unit ended (left step.operation cpu.now) step.demand step.row }
+    {
+        self.check(step.answers_only_zero(), Rule::OtherAnswer)?;
+        self.check(
+            step.halts_last(self.head.rows, self.step()),
+            Rule::LastAnswer,
+        )?;
+        self.check(step.fits_kind(), Rule::Kind)?;
+        self.check(step.fits_advice(ended), Rule::AdviceEnd)?;
+        self.check(step.fits_touch(cpu), Rule::Touch)
+    }
 }
