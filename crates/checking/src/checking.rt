@@ -128,16 +128,6 @@ impl<D: Dossier> Checking<D> {
         ensures law { Advances (D.Dossier.meaning self.old.dossier) self.old.progress k result }
     {
         self.recall();
-        self.move_on(k)
-    }
-
-    fn move_on(&mut self, k: u32) -> Result<Advanced, Refused>
-        requires { D.Dossier.rule self.old.dossier }
-        ensures kept { D.Dossier.rule self.new.dossier }
-        ensures same { D.Dossier.meaning self.new.dossier ≡ D.Dossier.meaning self.old.dossier }
-        ensures progress { self.new.progress ≡ advanced (D.Dossier.meaning self.old.dossier) self.old.progress k }
-        ensures answer { result ≡ advance_answer (D.Dossier.meaning self.old.dossier) self.old.progress k }
-    {
         admit(&self.progress, k)?;
         self.take_units(k);
         Ok(

@@ -1,4 +1,4 @@
-use Rattle.std.proofs.Common.{◌≡◌, List, [], ◌∷◌, sym, subst, rules}
+use Rattle.std.proofs.Common.{◌≡◌, [], ◌∷◌, sym, subst, rules}
 use Rattle.rules.specs.declared.call.Call.TheVariants.{Advance}
 use Rattle.rules.specs.Course.{begun, after, left, closing}
 use Rattle.rules.proofs.Acceptance.{acceptance, all_at_once}
