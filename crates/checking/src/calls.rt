@@ -1,6 +1,5 @@
 // Whole checkings: a dossier, and what is called.
 ghost use Rattle.std.specs.Prelude.{◌≡◌, [], ◌∷◌};
-ghost use Rattle.dossier.specs.Meaning.{Made};
 ghost use Rattle.rules.specs.declared.call.Call.TheVariants.{Advance};
 ghost use Rattle.rules.specs.Course.{begun, called, after, left, closing};
 ghost use Rattle.rules.specs.Laws.{Closes, Acceptance, Existence, Uniqueness};
@@ -39,18 +38,6 @@ pub fn run_calls<D: Dossier + Drop>(dossier: D, calls: &[Call]) -> Verdict
     checking.close()
 }
 
-fn take_all<D: Dossier + Drop>(dossier: D) -> Verdict
-    requires { D.Dossier.rule dossier }
-    ensures outcome { result.outcome ≡ closing (after (D.Dossier.meaning dossier) (Advance (left (begun (D.Dossier.meaning dossier))) ∷ [])) }
-    ensures head { result.head ≡ (after (D.Dossier.meaning dossier) (Advance (left (begun (D.Dossier.meaning dossier))) ∷ [])).head }
-    ensures made { Made (D.Dossier.meaning dossier) }
-{
-    let mut checking = Checking::begin(dossier);
-    let left = checking.ask().left;
-    let _ = checking.advance(left);
-    checking.close()
-}
-
 // Takes all units, up to a finding, and closes. The laws of checking stand on this call.
 pub fn check_all<D: Dossier + Drop>(dossier: D) -> Verdict
     requires { D.Dossier.rule dossier }
@@ -61,5 +48,8 @@ pub fn check_all<D: Dossier + Drop>(dossier: D) -> Verdict
     ensures existence { Existence }
     ensures uniqueness { Uniqueness }
 {
-    take_all(dossier)
+    let mut checking = Checking::begin(dossier);
+    let left = checking.ask().left;
+    let _ = checking.advance(left);
+    checking.close()
 }

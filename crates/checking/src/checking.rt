@@ -104,15 +104,8 @@ impl<D: Dossier> Checking<D> {
         ensures answer { result ≡ advance_answer self.old.dossier self.old.progress k }
         ensures law { Advances self.old.dossier self.old.progress k result }
     {
+        // asked when the dossier was opened: it says that the head counts the lists, which the law is about
         let _ = self.dossier.head();
-        self.move_on(k)
-    }
-
-    fn move_on(&mut self, k: u32) -> Result<Advanced, Refused>
-        ensures same { self.new.dossier ≡ self.old.dossier }
-        ensures progress { self.new.progress ≡ advanced self.old.dossier self.old.progress k }
-        ensures answer { result ≡ advance_answer self.old.dossier self.old.progress k }
-    {
         admit(&self.progress, k)?;
         self.take_units(k);
         Ok(
@@ -141,6 +134,7 @@ impl<D: Dossier> Checking<D> {
         ensures head { result.head ≡ self.progress.head }
         ensures law { ClosesAt self.dossier self.progress result.outcome }
     {
+        // as in an advance, for the law
         let _ = self.dossier.head();
         Verdict::new(&self.progress)
     }

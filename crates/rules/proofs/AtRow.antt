@@ -15,14 +15,14 @@ use Rattle.dossier.specs.declared.record.Row.{Row}
 use Rattle.dossier.specs.declared.record.Row.TheVariants.{Plain, FromLine, FromStep, Advice, AdviceEnd}
 use Rattle.dossier.specs.declared.refusal.Part.TheVariants as part
 use Rattle.run_log.specs.Log.{zeroed}
-use Rattle.run_log.specs.Rules.{row_at, line_at, touch_of, leads_to, from_step, LineOrigin, StepOrigin, LedOn, NextLink, RowLinks}
+use Rattle.run_log.specs.Rules.{row_at, line_at, touch_of, opens_touch, leads_to, from_step, LineOrigin, StepOrigin, LedOn, NextLink, RowLinks}
 use Rattle.run_log.specs.Run.{input_of, step_finding}
 use Rattle.run_log.proofs.Rows.{row_inside}
 use Rattle.tinyram.specs.Program.{outside, supplied}
 use Rattle.rules.specs.declared.finding.Rule.TheVariants as rule
 use Rattle.rules.specs.declared.progress.Unit as progress
 use Rattle.rules.specs.declared.progress.Unit.TheVariants as unit
-use Rattle.rules.specs.Checks.{operation_at, checked_step, opens_touch, checked_origin, checked_next, got_at, checked_row}
+use Rattle.rules.specs.Checks.{operation_at, checked_step, checked_origin, checked_next, got_at, checked_row}
 use Rattle.rules.proofs.Goes.{went, goes, past_test, with_test, found, finds, same_ok}
 use Rattle.rules.proofs.Whole.{whole, answer_at, row_read}
 use Rattle.rules.proofs.AtStep.{step_sound, step_complete}

@@ -20,7 +20,7 @@ use Rattle.dossier.specs.declared.record.Touch.{Touch}
 use Rattle.dossier.specs.declared.record.Row.{Row}
 use Rattle.dossier.specs.declared.record.Row.TheVariants.{Plain, FromLine, FromStep, Advice, AdviceEnd}
 use Rattle.dossier.specs.Meaning.{Meaning, instruction_answer, word_answer, line_answer, row_answer}
-use Rattle.run_log.specs.Rules.{kind_of, touch_of, test_touch, from_line, leads_to, from_step}
+use Rattle.run_log.specs.Rules.{kind_of, touch_of, test_touch, from_line, opens_touch, leads_to, from_step}
 use Rattle.run_log.specs.Run.{input_of}
 use Rattle.rules.specs.declared.finding.Rule.TheVariants as rule
 use Rattle.rules.specs.declared.finding.Finding.{Finding}
@@ -107,10 +107,6 @@ checked_step T w ended leaves d r =
     (λ _. then (unless (kind_fits d r) w rule.Kind)
     (λ _. then (unless (advice_fits ended r) w rule.AdviceEnd)
     (λ _. unless (touch_fits leaves d (touch_of r)) w rule.Touch))))
-
--- rule 31 of a touch from a line: the line has this cell and step, and the cell was still 0
-abbrev pub opens_touch : ℕ → Touch → Line → Bool
-opens_touch t x l = l.cell == x.cell && l.step == t && x.before == 0
 
 -- rule 31: the line, or the earlier row, is asked for only where there is one
 abbrev pub checked_origin : Meaning → Head → progress.Unit → Row → Result Unit Finding

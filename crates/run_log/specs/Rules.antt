@@ -86,6 +86,10 @@ test_line_origin initial ls t x =
     nat_lt x.origin (length ls) && (line_at ls x.origin).cell == x.cell
     && (line_at ls x.origin).step == t && x.before == initial x.cell
 
+-- the same of a line at hand, over memory that starts at 0: the line has x's cell and this step, and the cell was still 0
+abbrev pub opens_touch : ℕ → Touch → Line → Bool
+opens_touch t x l = l.cell == x.cell && l.step == t && x.before == 0
+
 pub record StepOrigin (rs : List Row) (t : ℕ) (x : Touch) : Type 0 where
   pub earlier : x.origin < t
   pub touch : IsTouch (row_at rs x.origin)

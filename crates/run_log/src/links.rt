@@ -1,7 +1,7 @@
 // The link rules, tried on rows and lines that are at hand.
 ghost use Rattle.std.specs.Prelude.{◌≡◌, ◌<◌, ◌==◌, length, Decides};
 ghost use Rattle.run_log.specs.Log.{zeroed, IsLog};
-ghost use Rattle.run_log.specs.Rules.{row_at, from_line, from_step, leads_to};
+ghost use Rattle.run_log.specs.Rules.{row_at, from_line, opens_touch, from_step, leads_to};
 ghost use Rattle.run_log.specs.Rules.{test_line_order, test_line_step, test_line_origin, test_step_origin, test_next_link};
 ghost use Rattle.run_log.specs.Rules.{line_finding, link_finding, LinesPass, RowsPass};
 
@@ -19,6 +19,13 @@ pub fn is_from_step(row: Row, step: u64) -> bool
     ensures { result ≡ from_step step row }
 {
     matches!(row, Row::FromStep(touch) if u64::from(touch.origin) == step)
+}
+
+// Whether the line opens this touch, which is that of this step, at which the cell was still 0.
+pub fn opens(line: Line, touch: Touch, step: u64) -> bool
+    ensures { result ≡ opens_touch step touch line }
+{
+    line.cell == touch.cell && u64::from(line.step) == step && touch.before == 0
 }
 
 // Whether the row is a touch of the same cell that leaves what `touch` finds and leads on to this step.
@@ -67,8 +74,7 @@ fn comes_from_line(lines: &[Line], t: usize, touch: Touch) -> bool
 {
     lines
         .get(touch.origin as usize)
-        .is_some_and(|line| line.cell == touch.cell && line.step as usize == t)
-        && touch.before == 0
+        .is_some_and(|line| opens(*line, touch, t as u64))
 }
 
 // Rule 31 of a touch from a step: an earlier touch of its cell left what it finds, and leads on to it.

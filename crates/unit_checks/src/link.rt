@@ -1,20 +1,13 @@
 // The rules of a touch's links: where it comes from, and where it leads on to.
 ghost use Rattle.std.specs.Prelude.{◌≡◌};
-ghost use Rattle.rules.specs.Checks.{opens_touch, checked_origin, checked_next};
+ghost use Rattle.rules.specs.Checks.{checked_origin, checked_next};
 
 use crate::turn::Turn;
 use dossier::opened::Opened;
 use dossier::questions::Dossier;
-use dossier::record::{Line, Row, Touch};
+use dossier::record::Row;
 use rules::finding::{Finding, Rule};
-use run_log::links::{is_from_step, leads_to};
-
-// Whether the line opens this touch of step `step`, at which the cell was still 0.
-fn opens(line: Line, touch: Touch, step: u64) -> bool
-    ensures { result ≡ opens_touch step touch line }
-{
-    line.cell == touch.cell && u64::from(line.step) == step && touch.before == 0
-}
+use run_log::links::{is_from_step, leads_to, opens};
 
 impl Turn {
     // Rule 31: the line, or the earlier row, is asked for only where there is one.

@@ -1,4 +1,6 @@
-use Rattle.std.proofs.Common.{sym, subst}
+use Rattle.std.proofs.Common.{◌≡◌, [], ◌∷◌, sym, subst, rules}
+use Rattle.rules.specs.declared.call.Call.TheVariants.{Advance}
+use Rattle.rules.specs.Course.{begun, after, left, closing}
 use Rattle.rules.proofs.Acceptance.{acceptance, all_at_once}
 use Rattle.rules.proofs.Dossiers.{existence, uniqueness}
 use Rattle.checking.specs.Laws.{AcceptsGenuine}
@@ -7,7 +9,8 @@ use Rattle.checking.proofs.calls.check_all.Goals as goal
 pub returns-clause-law : goal.returns-clause-law
 returns-clause-law g c =
     let m = g.D.Dossier.meaning c.args.dossier in
-    subst (AcceptsGenuine m) (sym c.take_all.ensures.outcome) (all_at_once m c.take_all.ensures.made)
+    let said : c.close.result.outcome ≡ closing (after m (Advance (left (begun m)) ∷ [])) = search rules in
+    subst (AcceptsGenuine m) (sym said) (all_at_once m c.begin-checking.ensures.made)
 
 pub returns-clause-acceptance : goal.returns-clause-acceptance
 returns-clause-acceptance g c = acceptance
