@@ -1,7 +1,7 @@
 // The records of a dossier.
 ghost use Rattle.std.specs.Prelude.{◌≡◌, ℕ, List};
 ghost use Rattle.std.proofs.Common.{rules};
-ghost use Rattle.dossier.specs.Numbers.{Numbered, row_kind, same, head_numbers, instruction_numbers, word_numbers, line_numbers, row_numbers};
+ghost use Rattle.dossier.specs.Numbers.{Numbered, row_kind, kind_number, same, head_numbers, instruction_numbers, word_numbers, line_numbers, row_numbers};
 
 use encoding::instruction::Instruction;
 
@@ -69,6 +69,14 @@ impl Row {
             Row::Advice(_) => RowKind::Advice,
             Row::AdviceEnd => RowKind::AdviceEnd,
         }
+    }
+}
+
+impl From<RowKind> for u8 {
+    ghost from_gives = { λ kind number. number ≡ kind_number kind };
+
+    fn from(kind: RowKind) -> u8 {
+        kind as u8
     }
 }
 
