@@ -23,13 +23,14 @@ fn words_of(row: Row) -> [u32; 5]
 fn row_from(kind: RowKind, touch: Touch) -> Option<Row>
     ensures { result ≡ row_from (kind_number kind) touch }
 {
-    let cell_alone = touch.before == 0 && touch.after == 0 && touch.origin == 0 && touch.next == 0;
+    let blank = Touch::default();
+    let cell = touch.cell;
     match kind {
-        RowKind::Plain if touch.cell == 0 && cell_alone => Some(Row::Plain),
+        RowKind::Plain if touch == blank => Some(Row::Plain),
         RowKind::FromLine => Some(Row::FromLine(touch)),
         RowKind::FromStep => Some(Row::FromStep(touch)),
-        RowKind::Advice if cell_alone => Some(Row::Advice(touch.cell)),
-        RowKind::AdviceEnd if touch.cell == 0 && cell_alone => Some(Row::AdviceEnd),
+        RowKind::Advice if touch == (Touch { cell, ..blank }) => Some(Row::Advice(cell)),
+        RowKind::AdviceEnd if touch == blank => Some(Row::AdviceEnd),
         _ => None,
     }
 }
