@@ -2,3 +2,4 @@ pub mod Items
 pub mod PartForm
 pub mod Meant
 pub mod Laws
+pub mod Placed

@@ -2,6 +2,9 @@
 use Rattle.std.specs.Prelude.{ℕ, ◌+◌, ◌*◌}
 use Rattle.dossier.specs.declared.record.Head.{Head}
 
+abbrev pub instructions_start : Head → ℕ
+instructions_start h = 23
+
 abbrev pub words_start : Head → ℕ
 words_start h = 23 + 11 * h.instructions
 

@@ -1,17 +1,18 @@
 // Layer 1: a dossier in the bytes of a file.
-ghost use Rattle.std.specs.Prelude.{◌≡◌, ◌+◌, ◌*◌, ◌≤◌, length, drop};
+ghost use Rattle.std.specs.Prelude.{◌≡◌};
 ghost use Rattle.std.specs.List.{slice_get};
+ghost use Rattle.dossier.specs.declared.refusal.Refusal.TheVariants.{Unreadable};
 ghost use Rattle.dossier.specs.Meaning.{Readable, item_answer};
-ghost use Rattle.field.specs.Bytes.{Bytes, field_read};
-ghost use Rattle.codec.specs.Held.{head_of, items, meaning_of};
+ghost use Rattle.field.specs.Bytes.{Bytes};
+ghost use Rattle.codec.specs.Held.{head_of, meaning_of};
 ghost use Rattle.codec.specs.Written.{written};
 
-use crate::layout::{HEAD_SIZE, file_size, lines_start, rows_start, words_start};
+use crate::layout::{FilePart, HEAD_SIZE, file_size};
 use dossier::questions::Dossier;
 use dossier::record::{Head, Line, Row};
 use dossier::refusal::{Fault, Part, Refusal};
 use encoding::instruction::Instruction;
-use field::kind::{Kind, read_field};
+use field::kind::read_field;
 
 const LAYER: u32 = 1;
 
@@ -25,14 +26,31 @@ pub struct ByteDossier<'a> {
 impl<'a> ByteDossier<'a> {
     // Bytes that are readable throughout are the written form of their meaning.
     pub fn new(bytes: &'a [u8]) -> ByteDossier<'a>
-        ensures rule { Bytes result.bytes.now × (result.head ≡ head_of result.bytes.now) }
-        ensures meant { meaning_of result.bytes.now ≡ meaning_of bytes.now }
+        ensures rule { ⟦<ByteDossier<'a> as Dossier>⟧.rule result }
+        ensures meant { ⟦<ByteDossier<'a> as Dossier>⟧.meaning result ≡ meaning_of bytes.now }
         ensures form { Readable (meaning_of bytes.now) → bytes.now ≡ written (meaning_of bytes.now) }
     {
         ByteDossier {
             bytes,
             head: head_of(bytes),
         }
+    }
+
+    // The record at a place of its part; without a head the parts are empty.
+    fn item<R: FilePart>(&self, place: u32) -> Result<R, Refusal>
+        requires { ⟦<ByteDossier<'a> as Dossier>⟧.rule self.now }
+        ensures { result ≡ item_answer R.ListedRecord.PART place (slice_get (R.ListedRecord.list (meaning_of self.now.bytes.now)) place) }
+    {
+        let part = R::PART;
+        let past = Refusal::Past { part, place };
+        let head = self.head.ok_or(past)?;
+        if place >= R::count(head) {
+            return Err(past);
+        }
+        let size = 3 + R::SIZE as usize;
+        let start = R::start(head) + size * place as usize;
+        let end = start + size;
+        read_field(&self.bytes[start..end]).ok_or(unreadable(part, place))
     }
 }
 
@@ -42,86 +60,40 @@ impl<'a> Dossier for ByteDossier<'a> {
     ghost rule = { λ d. Bytes d.bytes.now × (d.head ≡ head_of d.bytes.now) };
 
     fn head(&mut self) -> Result<Head, Refusal> {
-        match self.head {
-            Some(head) => Ok(head),
-            None => Err(Refusal::Unreadable(Fault {
-                part: Part::Head,
-                place: 0,
-                layer: LAYER,
-            })),
-        }
+        self.head.ok_or(unreadable(Part::Head, 0))
     }
 
     fn instruction(&mut self, place: u32) -> Result<Instruction, Refusal> {
-        let part = Part::Instruction;
-        let Some(head) = self.head else {
-            return Err(Refusal::Past { part, place });
-        };
-        item(self.bytes, HEAD_SIZE, head.instructions, part, place)
+        self.item(place)
     }
 
     fn word(&mut self, place: u32) -> Result<u32, Refusal> {
-        let part = Part::Word;
-        let Some(head) = self.head else {
-            return Err(Refusal::Past { part, place });
-        };
-        item(self.bytes, words_start(head), head.words, part, place)
+        self.item(place)
     }
 
     fn line(&mut self, place: u32) -> Result<Line, Refusal> {
-        let part = Part::Line;
-        let Some(head) = self.head else {
-            return Err(Refusal::Past { part, place });
-        };
-        item(self.bytes, lines_start(head), head.lines, part, place)
+        self.item(place)
     }
 
     fn row(&mut self, place: u32) -> Result<Row, Refusal> {
-        let part = Part::Row;
-        let Some(head) = self.head else {
-            return Err(Refusal::Past { part, place });
-        };
-        item(self.bytes, rows_start(head), head.rows, part, place)
+        self.item(place)
     }
+}
+
+fn unreadable(part: Part, place: u32) -> Refusal
+    ensures { result ≡ Unreadable (record { part = part; place = place; layer = 1 }) }
+{
+    Refusal::Unreadable(Fault {
+        part,
+        place,
+        layer: LAYER,
+    })
 }
 
 // The head, if its field stands first and the file has the length that it says.
 fn head_of(bytes: &[u8]) -> Option<Head>
     ensures { result ≡ head_of bytes.now }
 {
-    if bytes.len() < HEAD_SIZE {
-        return None;
-    }
-    let head = read_field::<Head>(&bytes[0..HEAD_SIZE])?;
-    if bytes.len() == file_size(head) {
-        Some(head)
-    } else {
-        None
-    }
-}
-
-// The item at a place of the part that begins at `start` and counts `count` items.
-fn item<K: Kind>(
-    bytes: &[u8],
-    start: usize,
-    count: u32,
-    part: Part,
-    place: u32,
-) -> Result<K, Refusal>
-    requires { start + (3 + K.Kind.sized) * count ≤ length bytes.now }
-    ensures { result ≡ item_answer part place (slice_get (items (field_read K.Kind.tagged K.Kind.sized K.Kind.parsed) (3 + K.Kind.sized) count (drop start bytes.now)) place) }
-{
-    if place >= count {
-        return Err(Refusal::Past { part, place });
-    }
-    let size = 3 + K::payload_size() as usize;
-    let at = start + size * place as usize;
-    match read_field(&bytes[at..at + size]) {
-        Some(found) => Ok(found),
-        None => Err(Refusal::Unreadable(Fault {
-            part,
-            place,
-            layer: LAYER,
-        })),
-    }
+    let field = bytes.get(..HEAD_SIZE)?;
+    read_field(field).filter(|head| bytes.len() == file_size(*head))
 }

@@ -1,8 +1,13 @@
 // Where the parts of a file begin. The sums are below 2^38, so that they fit.
-ghost use Rattle.std.specs.Prelude.{◌≡◌};
-ghost use Rattle.codec.specs.Layout.{words_start, lines_start, rows_start, file_size};
+ghost use Rattle.std.specs.Prelude.{◌≡◌, ℕ};
+ghost use Rattle.dossier.specs.declared.record.Head.{Head};
+ghost use Rattle.codec.specs.Layout.{instructions_start, words_start, lines_start, rows_start, file_size};
+ghost use Rattle.codec.specs.Held.{PartOfFile, instructions_placed, words_placed, lines_placed, rows_placed};
 
-use dossier::record::Head;
+use dossier::listed::ListedRecord;
+use dossier::record::{Head, Line, Row};
+use encoding::instruction::Instruction;
+use field::kind::Kind;
 
 pub const HEAD_SIZE: usize = 23;
 
@@ -28,4 +33,55 @@ pub fn file_size(head: Head) -> usize
     ensures { result ≡ file_size head }
 {
     rows_start(head) + 24 * head.rows as usize
+}
+
+// The kinds of record that stand in a part of a file: their fields, one after the other.
+pub trait FilePart: ListedRecord + Kind {
+    ghost start: { Head → ℕ };
+
+    fn start(head: Head) -> usize
+        ensures { result ≡ start head };
+
+    // The part's list is what stands there, and the part ends within the file.
+    ghost placed: { PartOfFile Self.TAG Self.SIZE Self.parsed Self.list Self.count start };
+}
+
+impl FilePart for Instruction {
+    ghost start = { instructions_start };
+
+    ghost placed = { instructions_placed };
+
+    fn start(_head: Head) -> usize {
+        HEAD_SIZE
+    }
+}
+
+impl FilePart for u32 {
+    ghost start = { words_start };
+
+    ghost placed = { words_placed };
+
+    fn start(head: Head) -> usize {
+        words_start(head)
+    }
+}
+
+impl FilePart for Line {
+    ghost start = { lines_start };
+
+    ghost placed = { lines_placed };
+
+    fn start(head: Head) -> usize {
+        lines_start(head)
+    }
+}
+
+impl FilePart for Row {
+    ghost start = { rows_start };
+
+    ghost placed = { rows_placed };
+
+    fn start(head: Head) -> usize {
+        rows_start(head)
+    }
 }

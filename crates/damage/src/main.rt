@@ -2,9 +2,9 @@
 // and prints which answers that changes. Without a head it prints how many items are past their lists.
 #![tactic(auto)]
 
-use dossier::refusal::Part;
-use listing::answer::Answer;
+use dossier::refusal::{Part, Refusal};
 use listing::ask::answer;
+use listing::found::Shown;
 use std::io;
 use std::io::Read;
 
@@ -13,64 +13,51 @@ const LIMIT: u64 = 4_096;
 const PARTS: [Part; 4] = [Part::Instruction, Part::Word, Part::Line, Part::Row];
 
 // The places of a part that are asked for: one more than the sample's longest list has.
-const PLACES: usize = 8;
-
-const QUESTIONS: usize = 32;
-
-// The questions for items, numbered part by part.
-fn question(number: usize) -> (Part, u32) {
-    (PARTS[number / PLACES % 4], (number % PLACES) as u32)
-}
+const PLACES: u32 = 8;
 
 fn changed(rt: &HostRuntime, before: &[u8], after: &[u8]) -> io::Result<()> {
-    for number in 0..QUESTIONS {
-        let (part, place) = question(number);
-        let now = answer(after, part, place);
-        if now != answer(before, part, place) {
-            print!(rt; ", {now}")?;
+    for part in PARTS {
+        for place in 0..PLACES {
+            let now = answer(after, part, place);
+            if now != answer(before, part, place) {
+                print!(rt; ", {}", Shown(now))?;
+            }
         }
     }
     println!(rt; "")
 }
 
-fn is_past(bytes: &[u8], number: usize) -> bool {
-    let (part, place) = question(number);
-    match answer(bytes, part, place) {
-        Answer::Refused(refusal) => refusal.number() == 1,
-        _ => false,
-    }
+fn past_in(bytes: &[u8], part: Part) -> usize {
+    (0..PLACES)
+        .filter(|place| matches!(answer(bytes, part, *place), Err(Refusal::Past { .. })))
+        .count()
 }
 
-fn past(bytes: &[u8]) -> u32 {
-    let mut count = 0u32;
-    for number in 0..QUESTIONS {
-        if is_past(bytes, number) {
-            count = count.saturating_add(1);
-        }
-    }
-    count
+fn past(bytes: &[u8]) -> usize {
+    PARTS.iter().fold(
+        0usize,
+        |count, part| count.saturating_add(past_in(bytes, *part)),
+    )
 }
 
 fn report(rt: &HostRuntime, before: &[u8], after: &[u8]) -> io::Result<()> {
     let head = answer(after, Part::Head, 0);
-    print!(rt; "{head}")?;
-    if let Answer::Refused(_) = head {
-        let count = past(after);
-        println!(rt; ", {count} past")
-    } else {
+    print!(rt; "{}", Shown(head))?;
+    if head.is_ok() {
         changed(rt, before, after)
+    } else {
+        println!(rt; ", {} past", past(after))
     }
 }
 
 fn change_each(rt: &HostRuntime, bytes: &[u8], mask: u8) -> io::Result<()> {
-    let mut after = bytes.to_vec(rt.alloc())?;
-    for at in 0..bytes.len() {
-        if at < after.len() {
-            after[at] ^= mask;
-            print!(rt; "byte {at} by {mask}: ")?;
-            report(rt, bytes, &after)?;
-            after[at] ^= mask;
-        }
+    let mut copy = bytes.to_vec(rt.alloc())?;
+    let after = copy.as_mut_slice();
+    for (at, byte) in bytes.iter().enumerate() {
+        after[at] = *byte ^ mask;
+        print!(rt; "byte {at} by {mask}: ")?;
+        report(rt, bytes, after)?;
+        after[at] = *byte;
     }
     Ok(())
 }
@@ -78,8 +65,9 @@ fn change_each(rt: &HostRuntime, bytes: &[u8], mask: u8) -> io::Result<()> {
 fn main(rt: HostRuntime) -> io::Result<()> {
     let mut bytes = Vec::new(rt.alloc());
     rt.stdin().take(LIMIT).read_to_end(&mut bytes)?;
-    change_each(&rt, &bytes, 1)?;
-    change_each(&rt, &bytes, 128)?;
+    for mask in [1, 128] {
+        change_each(&rt, &bytes, mask)?;
+    }
     for length in 0..bytes.len() {
         print!(rt; "length {length}: ")?;
         report(&rt, &bytes, &bytes[0..length])?;

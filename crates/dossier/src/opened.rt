@@ -1,11 +1,12 @@
 // A dossier that was asked for its head, seen as its meaning.
 ghost use Rattle.std.specs.Prelude.{◌≡◌};
-ghost use Rattle.dossier.specs.Meaning.{Meaning, Made, head_answer, instruction_answer, word_answer, line_answer, row_answer};
+ghost use Rattle.std.specs.List.{slice_get};
+ghost use Rattle.dossier.specs.Meaning.{Meaning, Made, head_answer, item_answer};
 
+use crate::listed::ListedRecord;
 use crate::questions::Dossier;
-use crate::record::{Head, Line, Row};
+use crate::record::Head;
 use crate::refusal::Refusal;
-use encoding::instruction::Instruction;
 use std::marker::Model;
 
 // The dossier keeps its own rule, and its head counts the lists, in which all numbers fit.
@@ -24,11 +25,10 @@ impl<D: Dossier> Model for Opened<D> {
 }
 
 impl<D: Dossier> Opened<D> {
-    pub fn new(dossier: D) -> Opened<D>
+    pub fn new(mut dossier: D) -> Opened<D>
         requires { D.Dossier.rule dossier }
         ensures { result ≡ D.Dossier.meaning dossier }
     {
-        let mut dossier = dossier;
         let head = dossier.head();
         Opened { dossier, head }
     }
@@ -40,31 +40,11 @@ impl<D: Dossier> Opened<D> {
         self.head
     }
 
-    pub fn instruction(&mut self, place: u32) -> Result<Instruction, Refusal>
+    // The record of a kind at a place of its part.
+    pub fn ask<R: ListedRecord>(&mut self, place: u32) -> Result<R, Refusal>
         ensures same { self.new ≡ self.old }
-        ensures answer { result ≡ instruction_answer self.old place }
+        ensures answer { result ≡ item_answer R.ListedRecord.PART place (slice_get (R.ListedRecord.list self.old) place) }
     {
-        self.dossier.instruction(place)
-    }
-
-    pub fn word(&mut self, place: u32) -> Result<u32, Refusal>
-        ensures same { self.new ≡ self.old }
-        ensures answer { result ≡ word_answer self.old place }
-    {
-        self.dossier.word(place)
-    }
-
-    pub fn line(&mut self, place: u32) -> Result<Line, Refusal>
-        ensures same { self.new ≡ self.old }
-        ensures answer { result ≡ line_answer self.old place }
-    {
-        self.dossier.line(place)
-    }
-
-    pub fn row(&mut self, place: u32) -> Result<Row, Refusal>
-        ensures same { self.new ≡ self.old }
-        ensures answer { result ≡ row_answer self.old place }
-    {
-        self.dossier.row(place)
+        R::ask(&mut self.dossier, place)
     }
 }

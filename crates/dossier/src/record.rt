@@ -1,11 +1,12 @@
 // The records of a dossier.
 ghost use Rattle.std.specs.Prelude.{◌≡◌, ℕ, List};
-ghost use Rattle.dossier.specs.Numbers.{same, head_numbers, instruction_numbers, word_numbers, line_numbers, row_numbers};
+ghost use Rattle.std.proofs.Common.{rules};
+ghost use Rattle.dossier.specs.Numbers.{Numbered, row_kind, kind_number, same, head_numbers, instruction_numbers, word_numbers, line_numbers, row_numbers};
 
 use encoding::instruction::Instruction;
 
 // How long a dossier's four lists are, and the bound on the run's steps.
-#[derive(Clone, Copy, PartialEq, Debug)]
+#[derive(Clone, Copy, PartialEq, Default, Debug)]
 pub struct Head {
     pub instructions: u32,
     pub words: u32,
@@ -15,7 +16,7 @@ pub struct Head {
 }
 
 // An opening line: a cell that the run touches, and the step of its first touch, counted from 1.
-#[derive(Clone, Copy, PartialEq, Debug)]
+#[derive(Clone, Copy, PartialEq, Default, Debug)]
 pub struct Line {
     pub cell: u32,
     pub step: u32,
@@ -24,7 +25,7 @@ pub struct Line {
 // A touch: a load or a store of a cell, with the cell's value before and after the step.
 // `origin` leads back: to the cell's opening line, counted from 0, or to the step of the touch before.
 // `next` leads on: to the step of the following touch, or it is 0.
-#[derive(Clone, Copy, PartialEq, Debug)]
+#[derive(Clone, Copy, PartialEq, Default, Debug)]
 pub struct Touch {
     pub cell: u32,
     pub before: u32,
@@ -33,7 +34,7 @@ pub struct Touch {
     pub next: u32,
 }
 
-// What a step did that the log shows. The kinds are numbered 0 to 4 in this order.
+// What a step did that the log shows.
 #[derive(Clone, Copy, PartialEq, Debug)]
 pub enum Row {
     Plain,
@@ -47,50 +48,92 @@ pub enum Row {
     AdviceEnd,
 }
 
-// A record is made of numbers, and two records are the same if these are.
-pub trait Record: Copy {
+// The kinds of row, and their numbers in the records.
+#[derive(Clone, Copy, PartialEq, Eq, Debug)]
+pub enum RowKind {
+    Plain = 0,
+    FromLine = 1,
+    FromStep = 2,
+    Advice = 3,
+    AdviceEnd = 4,
+}
+
+impl Row {
+    pub fn kind(&self) -> RowKind
+        ensures { result ≡ row_kind self.now }
+    {
+        match self {
+            Row::Plain => RowKind::Plain,
+            Row::FromLine(_) => RowKind::FromLine,
+            Row::FromStep(_) => RowKind::FromStep,
+            Row::Advice(_) => RowKind::Advice,
+            Row::AdviceEnd => RowKind::AdviceEnd,
+        }
+    }
+}
+
+impl From<RowKind> for u8 {
+    ghost from_gives = { λ kind number. number ≡ kind_number kind };
+
+    fn from(kind: RowKind) -> u8 {
+        kind as u8
+    }
+}
+
+// A number that no kind of row has.
+#[derive(Clone, Copy, PartialEq, Eq, Debug)]
+pub struct UnknownKind(pub u8);
+
+impl TryFrom<u8> for RowKind {
+    type Error = UnknownKind;
+
+    ghost try_from_gives = { Numbered };
+
+    fn try_from(number: u8) -> Result<RowKind, UnknownKind> {
+        match number {
+            0 => Ok(RowKind::Plain),
+            1 => Ok(RowKind::FromLine),
+            2 => Ok(RowKind::FromStep),
+            3 => Ok(RowKind::Advice),
+            4 => Ok(RowKind::AdviceEnd),
+            _ => Err(UnknownKind(number)),
+        }
+    }
+}
+
+// A record is made of numbers, and two records are equal exactly where these are.
+pub trait Record: Copy + PartialEq {
     ghost numbers: { Self → List ℕ };
 
-    fn is_same(&self, other: &Self) -> bool
-        ensures { result ≡ same numbers self.now other.now };
+    ghost equal_by_numbers: { (a b : Self) → Self.eq a b ≡ same numbers a b };
 }
 
 impl Record for Head {
     ghost numbers = { head_numbers };
 
-    fn is_same(&self, other: &Head) -> bool {
-        *self == *other
-    }
+    ghost equal_by_numbers = { Prim.search rules };
 }
 
 impl Record for Instruction {
     ghost numbers = { instruction_numbers };
 
-    fn is_same(&self, other: &Instruction) -> bool {
-        *self == *other
-    }
+    ghost equal_by_numbers = { Prim.search rules };
 }
 
 impl Record for u32 {
     ghost numbers = { word_numbers };
 
-    fn is_same(&self, other: &u32) -> bool {
-        *self == *other
-    }
+    ghost equal_by_numbers = { Prim.search rules };
 }
 
 impl Record for Line {
     ghost numbers = { line_numbers };
 
-    fn is_same(&self, other: &Line) -> bool {
-        *self == *other
-    }
+    ghost equal_by_numbers = { Prim.search rules };
 }
 
 impl Record for Row {
     ghost numbers = { row_numbers };
 
-    fn is_same(&self, other: &Row) -> bool {
-        *self == *other
-    }
+    ghost equal_by_numbers = { Prim.search rules };
 }

@@ -42,13 +42,11 @@ impl Refusal {
     pub fn value(&self, place: usize) -> Option<u32>
         ensures { result ≡ slice_get (refusal_values self.now) place }
     {
-        match (*self, place) {
-            (Refusal::Past { part, .. }, 0) => Some(part as u32),
-            (Refusal::Past { place, .. }, 1) => Some(place),
-            (Refusal::Unreadable(fault), 0) => Some(fault.part as u32),
-            (Refusal::Unreadable(fault), 1) => Some(fault.place),
-            (Refusal::Unreadable(fault), 2) => Some(fault.layer),
-            _ => None,
+        match self {
+            Refusal::Past { part, place: asked } => [*part as u32, *asked].get(place).copied(),
+            Refusal::Unreadable(fault) => [fault.part as u32, fault.place, fault.layer]
+                .get(place)
+                .copied(),
         }
     }
 }

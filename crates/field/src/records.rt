@@ -1,24 +1,17 @@
 // The kinds of record whose payload is their numbers, each as a word.
 ghost use Rattle.std.specs.Prelude.{Some, None, Option};
-ghost use Rattle.dossier.specs.Numbers.{head_numbers, instruction_numbers, word_numbers, line_numbers};
 ghost use Rattle.field.specs.Payload.{head_payload, head_parsed, instruction_payload, instruction_parsed, word_payload, word_parsed, line_payload, line_parsed};
 ghost use Rattle.field.specs.Forms.{head_form, instruction_form, word_form, line_form};
 
 use crate::kind::Kind;
-use crate::words::{put_words, word_at};
+use crate::words::{read_words, write_words};
 use dossier::record::{Head, Line};
 use encoding::instruction::Instruction;
 
 impl Kind for Head {
-    const TAG: u8 = 1;
+    ghost TAG = { 1 };
 
-    const SIZE: u16 = 20;
-
-    ghost tagged = { 1 };
-
-    ghost sized = { 20 };
-
-    ghost numbers = { head_numbers };
+    ghost SIZE = { 20 };
 
     ghost payload = { head_payload };
 
@@ -26,53 +19,37 @@ impl Kind for Head {
 
     ghost form = { head_form };
 
-    fn tag_byte() -> u8 {
-        Self::TAG
-    }
+    const TAG: u8 = 1;
 
-    fn payload_size() -> u16 {
-        Self::SIZE
-    }
+    const SIZE: u16 = 20;
 
     fn read(bytes: &[u8]) -> Option<Head> {
-        if bytes.len() != Self::SIZE as usize {
-            return None;
-        }
+        let [instructions, words, lines, rows, bound] = read_words::<5>(bytes)?;
         Some(Head {
-            instructions: word_at(bytes, 0),
-            words: word_at(bytes, 4),
-            lines: word_at(bytes, 8),
-            rows: word_at(bytes, 12),
-            bound: word_at(bytes, 16),
+            instructions,
+            words,
+            lines,
+            rows,
+            bound,
         })
     }
 
     fn write(&self, bytes: &mut [u8]) {
-        if bytes.len() == Self::SIZE as usize {
-            put_words(
-                &[
-                    self.instructions,
-                    self.words,
-                    self.lines,
-                    self.rows,
-                    self.bound,
-                ],
-                bytes,
-            );
-        }
+        let Head {
+            instructions,
+            words,
+            lines,
+            rows,
+            bound,
+        } = *self;
+        write_words(&[instructions, words, lines, rows, bound], bytes);
     }
 }
 
 impl Kind for Instruction {
-    const TAG: u8 = 2;
+    ghost TAG = { 2 };
 
-    const SIZE: u16 = 8;
-
-    ghost tagged = { 2 };
-
-    ghost sized = { 8 };
-
-    ghost numbers = { instruction_numbers };
+    ghost SIZE = { 8 };
 
     ghost payload = { instruction_payload };
 
@@ -80,41 +57,24 @@ impl Kind for Instruction {
 
     ghost form = { instruction_form };
 
-    fn tag_byte() -> u8 {
-        Self::TAG
-    }
+    const TAG: u8 = 2;
 
-    fn payload_size() -> u16 {
-        Self::SIZE
-    }
+    const SIZE: u16 = 8;
 
     fn read(bytes: &[u8]) -> Option<Instruction> {
-        if bytes.len() != Self::SIZE as usize {
-            return None;
-        }
-        Some(Instruction {
-            first: word_at(bytes, 0),
-            second: word_at(bytes, 4),
-        })
+        let [first, second] = read_words::<2>(bytes)?;
+        Some(Instruction { first, second })
     }
 
     fn write(&self, bytes: &mut [u8]) {
-        if bytes.len() == Self::SIZE as usize {
-            put_words(&[self.first, self.second], bytes);
-        }
+        write_words(&[self.first, self.second], bytes);
     }
 }
 
 impl Kind for u32 {
-    const TAG: u8 = 3;
+    ghost TAG = { 3 };
 
-    const SIZE: u16 = 4;
-
-    ghost tagged = { 3 };
-
-    ghost sized = { 4 };
-
-    ghost numbers = { word_numbers };
+    ghost SIZE = { 4 };
 
     ghost payload = { word_payload };
 
@@ -122,38 +82,24 @@ impl Kind for u32 {
 
     ghost form = { word_form };
 
-    fn tag_byte() -> u8 {
-        Self::TAG
-    }
+    const TAG: u8 = 3;
 
-    fn payload_size() -> u16 {
-        Self::SIZE
-    }
+    const SIZE: u16 = 4;
 
     fn read(bytes: &[u8]) -> Option<u32> {
-        if bytes.len() != Self::SIZE as usize {
-            return None;
-        }
-        Some(word_at(bytes, 0))
+        let [word] = read_words::<1>(bytes)?;
+        Some(word)
     }
 
     fn write(&self, bytes: &mut [u8]) {
-        if bytes.len() == Self::SIZE as usize {
-            put_words(&[*self], bytes);
-        }
+        write_words(&[*self], bytes);
     }
 }
 
 impl Kind for Line {
-    const TAG: u8 = 4;
+    ghost TAG = { 4 };
 
-    const SIZE: u16 = 8;
-
-    ghost tagged = { 4 };
-
-    ghost sized = { 8 };
-
-    ghost numbers = { line_numbers };
+    ghost SIZE = { 8 };
 
     ghost payload = { line_payload };
 
@@ -161,27 +107,16 @@ impl Kind for Line {
 
     ghost form = { line_form };
 
-    fn tag_byte() -> u8 {
-        Self::TAG
-    }
+    const TAG: u8 = 4;
 
-    fn payload_size() -> u16 {
-        Self::SIZE
-    }
+    const SIZE: u16 = 8;
 
     fn read(bytes: &[u8]) -> Option<Line> {
-        if bytes.len() != Self::SIZE as usize {
-            return None;
-        }
-        Some(Line {
-            cell: word_at(bytes, 0),
-            step: word_at(bytes, 4),
-        })
+        let [cell, step] = read_words::<2>(bytes)?;
+        Some(Line { cell, step })
     }
 
     fn write(&self, bytes: &mut [u8]) {
-        if bytes.len() == Self::SIZE as usize {
-            put_words(&[self.cell, self.step], bytes);
-        }
+        write_words(&[self.cell, self.step], bytes);
     }
 }

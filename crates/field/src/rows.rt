@@ -1,51 +1,44 @@
 // The kind of record that is a row: a byte for the kind of row, then five words.
 ghost use Rattle.std.specs.Prelude.{◌≡◌, ◌∷◌, Some, None, Option};
-ghost use Rattle.dossier.specs.Numbers.{row_numbers};
+ghost use Rattle.dossier.specs.Numbers.{kind_number, row_kind, row_numbers};
 ghost use Rattle.field.specs.Payload.{row_payload, row_parsed, row_from};
 ghost use Rattle.field.specs.Forms.{row_form};
 
 use crate::kind::Kind;
-use crate::words::{put_words, word_at};
-use dossier::record::{Row, Touch};
+use crate::words::{read_words, write_words};
+use dossier::record::{Row, RowKind, Touch};
 
-// The kind of a row, and the words that follow it.
-fn numbers_of(row: Row) -> (u8, [u32; 5])
-    ensures { (result.0 ∷ result.1) ≡ row_numbers row }
+// The words that follow the kind of a row.
+fn words_of(row: Row) -> [u32; 5]
+    ensures { (kind_number (row_kind row) ∷ result) ≡ row_numbers row }
 {
     match row {
-        Row::Plain => (0, [0, 0, 0, 0, 0]),
-        Row::FromLine(t) => (1, [t.cell, t.before, t.after, t.origin, t.next]),
-        Row::FromStep(t) => (2, [t.cell, t.before, t.after, t.origin, t.next]),
-        Row::Advice(word) => (3, [word, 0, 0, 0, 0]),
-        Row::AdviceEnd => (4, [0, 0, 0, 0, 0]),
+        Row::FromLine(t) | Row::FromStep(t) => [t.cell, t.before, t.after, t.origin, t.next],
+        Row::Advice(word) => [word, 0, 0, 0, 0],
+        Row::Plain | Row::AdviceEnd => [0; 5],
     }
 }
 
 // The row of a kind, where the words that it does not use are 0.
-fn row_from(kind: u8, touch: Touch) -> Option<Row>
-    ensures { result ≡ row_from kind touch }
+fn row_from(kind: RowKind, touch: Touch) -> Option<Row>
+    ensures { result ≡ row_from (kind_number kind) touch }
 {
-    let cell_alone = touch.before == 0 && touch.after == 0 && touch.origin == 0 && touch.next == 0;
+    let blank = Touch::default();
+    let cell = touch.cell;
     match kind {
-        0 if touch.cell == 0 && cell_alone => Some(Row::Plain),
-        1 => Some(Row::FromLine(touch)),
-        2 => Some(Row::FromStep(touch)),
-        3 if cell_alone => Some(Row::Advice(touch.cell)),
-        4 if touch.cell == 0 && cell_alone => Some(Row::AdviceEnd),
+        RowKind::Plain if touch == blank => Some(Row::Plain),
+        RowKind::FromLine => Some(Row::FromLine(touch)),
+        RowKind::FromStep => Some(Row::FromStep(touch)),
+        RowKind::Advice if touch == (Touch { cell, ..blank }) => Some(Row::Advice(cell)),
+        RowKind::AdviceEnd if touch == blank => Some(Row::AdviceEnd),
         _ => None,
     }
 }
 
 impl Kind for Row {
-    const TAG: u8 = 5;
+    ghost TAG = { 5 };
 
-    const SIZE: u16 = 21;
-
-    ghost tagged = { 5 };
-
-    ghost sized = { 21 };
-
-    ghost numbers = { row_numbers };
+    ghost SIZE = { 21 };
 
     ghost payload = { row_payload };
 
@@ -53,33 +46,27 @@ impl Kind for Row {
 
     ghost form = { row_form };
 
-    fn tag_byte() -> u8 {
-        Self::TAG
-    }
+    const TAG: u8 = 5;
 
-    fn payload_size() -> u16 {
-        Self::SIZE
-    }
+    const SIZE: u16 = 21;
 
     fn read(bytes: &[u8]) -> Option<Row> {
-        if bytes.len() != Self::SIZE as usize {
-            return None;
-        }
+        let (kind, words) = bytes.split_first()?;
+        let [cell, before, after, origin, next] = read_words::<5>(words)?;
         let touch = Touch {
-            cell: word_at(bytes, 1),
-            before: word_at(bytes, 5),
-            after: word_at(bytes, 9),
-            origin: word_at(bytes, 13),
-            next: word_at(bytes, 17),
+            cell,
+            before,
+            after,
+            origin,
+            next,
         };
-        row_from(bytes[0], touch)
+        row_from(RowKind::try_from(*kind).ok()?, touch)
     }
 
     fn write(&self, bytes: &mut [u8]) {
         if bytes.len() == Self::SIZE as usize {
-            let (kind, words) = numbers_of(*self);
-            bytes[0] = kind;
-            put_words(&words, &mut bytes[1..]);
+            bytes[0] = u8::from(self.kind());
+            write_words(&words_of(*self), &mut bytes[1..]);
         }
     }
 }

@@ -1,15 +1,14 @@
 -- Two dossiers under a common head have lists of equal lengths, so that their pair answers what both answer. Assumes nothing.
-use Rattle.std.proofs.Common.{◌≡◌, ℕ, zero, suc, Bool, true, false, cond, List, [], ◌∷◌, length, Some, Ok, Err, Result, sym, refl, ap, ◌∙◌, arith}
+use Rattle.std.proofs.Common.{◌≡◌, ℕ, zero, suc, Bool, true, false, cond, List, [], ◌∷◌, length, Some, Ok, Err, refl, ap, ◌∙◌, arith}
 use Rattle.std.specs.List.{slice_get}
 use Rattle.std.proofs.lemmas.Bool.Decides.{nat_tests}
 use Rattle.dossier.specs.declared.record.Head.{Head}
 use Rattle.dossier.specs.declared.refusal.Part.{Part}
 use Rattle.dossier.specs.declared.refusal.Part.TheVariants as part
-use Rattle.dossier.specs.declared.refusal.Refusal.{Refusal}
 use Rattle.dossier.specs.declared.refusal.Refusal.TheVariants.{Unreadable}
 use Rattle.dossier.specs.Numbers.{Fit, same, head_numbers, instruction_numbers, word_numbers, line_numbers, row_numbers}
-use Rattle.dossier.specs.Meaning.{Item, Meaning, Made, Listed, ItemFits, Each, counted, item_answer}
-use Rattle.layers.specs.Pair.{agreed, both, under, paired, common_answer, headed}
+use Rattle.dossier.specs.Meaning.{Item, Meaning, Made, Listed, ItemFits, Each, counted, item_answer, head_answer}
+use Rattle.layers.specs.Pair.{agreed, both, under, common_list, paired, common_answer}
 
 -- a test of two records, on the side of items and on the side of answers
 one : {R : Type 0} (p : Part) (j : ℕ) (a : R) (s : Bool) → cond s (Ok a) (Err (Unreadable (record { part = p; place = j; layer = 4 }))) ≡ item_answer p j (Some (cond s (Ok a) (Err 4)))
@@ -33,19 +32,28 @@ length_both f [] ys e = refl
 length_both f (x ∷ xs) [] e = absurd (omega arith)
 length_both f (x ∷ xs) (y ∷ ys) e = ap suc (length_both f xs ys (omega arith))
 
-module _ {R : Type 0} (f : R → List ℕ) (p : Part) (j : ℕ) (count : Head → ℕ) (alike : (g h : Head) → same head_numbers g h ≡ true → count g ≡ count h) where
-  headed_answer : (s : Bool) (g h : Head) → same head_numbers g h ≡ s → (xs ys : List (Item R)) → length xs ≡ count g → length ys ≡ count h → headed (item_answer part.Head 0 (Some (cond s (Ok g) (Err 4)))) p j ≡ Ok tt → common_answer f p j (item_answer p j (slice_get xs j)) (item_answer p j (slice_get ys j)) ≡ item_answer p j (slice_get (under (cond s (Ok g) (Err 4)) (both f xs ys)) j)
-  headed_answer true g h e xs ys cx cy is = let n = alike g h e in at_place f p j j xs ys (omega arith)
-  headed_answer false g h e xs ys cx cy is = let z : ◌≡◌ {A = ℕ} 0 1 = cc in absurd (omega arith)
+-- heads of the same numbers are the same
+joined : (i w l r b i' w' l' r' b' : ℕ) → i ≡ i' → w ≡ w' → l ≡ l' → r ≡ r' → b ≡ b' → ◌≡◌ {A = Head} (record { instructions = i; words = w; lines = l; rows = r; bound = b }) (record { instructions = i'; words = w'; lines = l'; rows = r'; bound = b' })
+joined i w l r b i' w' l' r' b' ei ew el er eb = cc
 
-  under_answer : (x y : Item Head) (xs ys : List (Item R)) → length xs ≡ counted x count → length ys ≡ counted y count → headed (item_answer part.Head 0 (Some (agreed head_numbers x y))) p j ≡ Ok tt → common_answer f p j (item_answer p j (slice_get xs j)) (item_answer p j (slice_get ys j)) ≡ item_answer p j (slice_get (under (agreed head_numbers x y) (both f xs ys)) j)
-  under_answer (Err l) y xs ys cx cy is = let z : ◌≡◌ {A = ℕ} 0 1 = cc in absurd (omega arith)
-  under_answer (Ok g) (Err l) xs ys cx cy is = let z : ◌≡◌ {A = ℕ} 0 1 = cc in absurd (omega arith)
-  under_answer (Ok g) (Ok h) xs ys cx cy is = headed_answer (same head_numbers g h) g h refl xs ys cx cy is
+same_head : (g h : Head) → same head_numbers g h ≡ true → g ≡ h
+same_head g h e = joined g.instructions g.words g.lines g.rows g.bound h.instructions h.words h.lines h.rows h.bound (grind (arith, nat_tests)) (grind (arith, nat_tests)) (grind (arith, nat_tests)) (grind (arith, nat_tests)) (grind (arith, nat_tests))
 
-  -- what the pair answers, from the answers of the two and from the head that it keeps
-  pub pair_answer : (a b : Item Head) (xs ys : List (Item R)) (head : Result Head Refusal) (x y r : Result R Refusal) → length xs ≡ counted a count → length ys ≡ counted b count → head ≡ item_answer part.Head 0 (Some (agreed head_numbers a b)) → headed head p j ≡ Ok tt → x ≡ item_answer p j (slice_get xs j) → y ≡ item_answer p j (slice_get ys j) → r ≡ common_answer f p j x y → r ≡ item_answer p j (slice_get (under (agreed head_numbers a b) (both f xs ys)) j)
-  pair_answer a b xs ys head x y r cx cy h is ex ey er = er ∙ ap (λ z. common_answer f p j z y) ex ∙ ap (common_answer f p j (item_answer p j (slice_get xs j))) ey ∙ under_answer a b xs ys cx cy (sym (ap (λ z. headed z p j) h) ∙ is)
+module _ {R : Type 0} (f : R → List ℕ) (p : Part) (j : ℕ) where
+  module _ (count : Head → ℕ) where
+    alike_answer : (s : Bool) (g h : Head) → same head_numbers g h ≡ s → (xs ys : List (Item R)) → length xs ≡ count g → length ys ≡ count h → (x : Head) → Ok x ≡ item_answer part.Head 0 (Some (cond s (Ok g) (Err 4))) → common_answer f p j (item_answer p j (slice_get xs j)) (item_answer p j (slice_get ys j)) ≡ item_answer p j (slice_get (under (cond s (Ok g) (Err 4)) (both f xs ys)) j)
+    alike_answer true g h e xs ys cx cy x is = let n = ap count (same_head g h e) in at_place f p j j xs ys (omega arith)
+    alike_answer false g h e xs ys cx cy x is = let z : ◌≡◌ {A = ℕ} 0 1 = cc in absurd (omega arith)
+
+    under_answer : (x y : Item Head) (xs ys : List (Item R)) → length xs ≡ counted x count → length ys ≡ counted y count → (h : Head) → Ok h ≡ item_answer part.Head 0 (Some (agreed head_numbers x y)) → common_answer f p j (item_answer p j (slice_get xs j)) (item_answer p j (slice_get ys j)) ≡ item_answer p j (slice_get (under (agreed head_numbers x y) (both f xs ys)) j)
+    under_answer (Err l) y xs ys cx cy h is = let z : ◌≡◌ {A = ℕ} 0 1 = cc in absurd (omega arith)
+    under_answer (Ok g) (Err l) xs ys cx cy h is = let z : ◌≡◌ {A = ℕ} 0 1 = cc in absurd (omega arith)
+    under_answer (Ok g) (Ok h) xs ys cx cy x is = alike_answer (same head_numbers g h) g h refl xs ys cx cy x is
+
+  -- what the pair answers under a common head
+  module _ (list : Meaning → List (Item R)) (a b : Meaning) where
+    pub agreeing : (count : Head → ℕ) (h : Head) → Listed a.head count f (list a) → Listed b.head count f (list b) → Ok h ≡ head_answer (paired a b) → common_answer f p j (item_answer p j (slice_get (list a) j)) (item_answer p j (slice_get (list b) j)) ≡ item_answer p j (slice_get (common_list f list a b) j)
+    agreeing count h la lb is = under_answer count a.head b.head (list a) (list b) la.counts lb.counts h is
 
 module _ {R : Type 0} (f : R → List ℕ) where
   chosen_fits : (s : Bool) (a : R) → Fit f a → ItemFits f (cond s (Ok a) (Err 4))
@@ -62,9 +70,9 @@ module _ {R : Type 0} (f : R → List ℕ) where
   both_fits (x ∷ xs) [] h k = tt
   both_fits (x ∷ xs) (y ∷ ys) h k = (agreed_fits x y h.0 k.0, both_fits xs ys h.1 k.1)
 
-  module _ (count : Head → ℕ) (alike : (g h : Head) → same head_numbers g h ≡ true → count g ≡ count h) where
+  module _ (count : Head → ℕ) where
     headed_listed : (s : Bool) (g h : Head) → same head_numbers g h ≡ s → (xs ys : List (Item R)) → Listed (Ok g) count f xs → Listed (Ok h) count f ys → Listed (cond s (Ok g) (Err 4)) count f (under (cond s (Ok g) (Err 4)) (both f xs ys))
-    headed_listed true g h e xs ys l k = let n = alike g h e in record { counts = length_both f xs ys (omega arith) ∙ l.counts; fits = both_fits xs ys l.fits k.fits }
+    headed_listed true g h e xs ys l k = let n = ap count (same_head g h e) in record { counts = length_both f xs ys (omega arith) ∙ l.counts; fits = both_fits xs ys l.fits k.fits }
     headed_listed false g h e xs ys l k = record { counts = refl; fits = tt }
 
     listed : (x y : Item Head) (xs ys : List (Item R)) → Listed x count f xs → Listed y count f ys → Listed (agreed head_numbers x y) count f (under (agreed head_numbers x y) (both f xs ys))
@@ -75,8 +83,8 @@ module _ {R : Type 0} (f : R → List ℕ) where
 pub made_pair : (a b : Meaning) → Made a → Made b → Made (paired a b)
 made_pair a b l k = record {
   head = agreed_fits head_numbers a.head b.head l.head k.head;
-  instructions = listed instruction_numbers (λ h. h.instructions) (λ g h e. grind (arith, nat_tests)) a.head b.head a.instructions b.instructions l.instructions k.instructions;
-  words = listed word_numbers (λ h. h.words) (λ g h e. grind (arith, nat_tests)) a.head b.head a.words b.words l.words k.words;
-  lines = listed line_numbers (λ h. h.lines) (λ g h e. grind (arith, nat_tests)) a.head b.head a.lines b.lines l.lines k.lines;
-  rows = listed row_numbers (λ h. h.rows) (λ g h e. grind (arith, nat_tests)) a.head b.head a.rows b.rows l.rows k.rows;
+  instructions = listed instruction_numbers (λ h. h.instructions) a.head b.head a.instructions b.instructions l.instructions k.instructions;
+  words = listed word_numbers (λ h. h.words) a.head b.head a.words b.words l.words k.words;
+  lines = listed line_numbers (λ h. h.lines) a.head b.head a.lines b.lines l.lines k.lines;
+  rows = listed row_numbers (λ h. h.rows) a.head b.head a.rows b.rows l.rows k.rows;
 }

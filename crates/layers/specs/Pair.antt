@@ -2,14 +2,14 @@
 --   agreed f x y       the common item: the first's fault, or the second's, or the record if both have the same
 --   paired a b         the meaning of the pair
 --   common_answer      the same, said of two answers to one question
---   headed             refusal 1 where there is no common head
-use Rattle.std.specs.Prelude.{ℕ, cond, List, [], ◌∷◌, Ok, Err, Result}
+--   Pairs a b head     what a pair keeps of the two and of its head
+use Rattle.std.specs.Prelude.{◌≡◌, ℕ, cond, List, [], ◌∷◌, Ok, Err, Result}
 use Rattle.dossier.specs.declared.record.Head.{Head}
 use Rattle.dossier.specs.declared.refusal.Part.{Part}
 use Rattle.dossier.specs.declared.refusal.Refusal.{Refusal}
-use Rattle.dossier.specs.declared.refusal.Refusal.TheVariants.{Past, Unreadable}
+use Rattle.dossier.specs.declared.refusal.Refusal.TheVariants.{Unreadable}
 use Rattle.dossier.specs.Numbers.{same, head_numbers, instruction_numbers, word_numbers, line_numbers, row_numbers}
-use Rattle.dossier.specs.Meaning.{Item, Meaning}
+use Rattle.dossier.specs.Meaning.{Item, Meaning, Made, head_answer}
 
 abbrev pub agreed : {R : Type 0} → (R → List ℕ) → Item R → Item R → Item R
 agreed f (Err l) y = Err l
@@ -29,20 +29,26 @@ under (Err l) xs = []
 abbrev pub common_head : Meaning → Meaning → Item Head
 common_head a b = agreed head_numbers a.head b.head
 
+-- the common list of two dossiers, under their common head
+abbrev pub common_list : {R : Type 0} → (R → List ℕ) → (Meaning → List (Item R)) → Meaning → Meaning → List (Item R)
+common_list f list a b = under (common_head a b) (both f (list a) (list b))
+
 abbrev pub paired : Meaning → Meaning → Meaning
 paired a b = record {
   head = common_head a b;
-  instructions = under (common_head a b) (both instruction_numbers a.instructions b.instructions);
-  words = under (common_head a b) (both word_numbers a.words b.words);
-  lines = under (common_head a b) (both line_numbers a.lines b.lines);
-  rows = under (common_head a b) (both row_numbers a.rows b.rows);
+  instructions = common_list instruction_numbers (λ m. m.instructions) a b;
+  words = common_list word_numbers (λ m. m.words) a b;
+  lines = common_list line_numbers (λ m. m.lines) a b;
+  rows = common_list row_numbers (λ m. m.rows) a b;
 }
+
+-- two dossiers that are made, and the answer that both give for the head
+pub record Pairs (a b : Meaning) (head : Result Head Refusal) : Type 0 where
+  pub first : Made a
+  pub second : Made b
+  pub both_say : head ≡ head_answer (paired a b)
 
 abbrev pub common_answer : {R : Type 0} → (R → List ℕ) → Part → ℕ → Result R Refusal → Result R Refusal → Result R Refusal
 common_answer f p k (Err e) y = Err e
 common_answer f p k (Ok a) (Err e) = Err e
 common_answer f p k (Ok a) (Ok b) = cond (same f a b) (Ok a) (Err (Unreadable (record { part = p; place = k; layer = 4 })))
-
-abbrev pub headed : Result Head Refusal → Part → ℕ → Result Unit Refusal
-headed (Ok h) p k = Ok tt
-headed (Err e) p k = Err (Past p k)

@@ -25,8 +25,8 @@ impl<D: Dossier> RowCache<D> {
     // An empty cache.
     pub fn new(below: D) -> RowCache<D>
         requires { D.Dossier.rule below }
-        ensures rule { D.Dossier.rule result.below × Slots (D.Dossier.meaning result.below) result.slots }
-        ensures meant { D.Dossier.meaning result.below ≡ D.Dossier.meaning below }
+        ensures rule { ⟦<RowCache<D> as Dossier>⟧.rule result }
+        ensures meant { ⟦<RowCache<D> as Dossier>⟧.meaning result ≡ D.Dossier.meaning below }
         ensures empty { result.slots ≡ replicate 32 None }
     {
         RowCache {
@@ -59,10 +59,10 @@ impl<D: Dossier> Dossier for RowCache<D> {
 
     fn row(&mut self, place: u32) -> Result<Row, Refusal> {
         let slot = (place % 32) as usize;
-        if let Some(stored) = self.slots[slot] {
-            if stored.place == place {
-                return Ok(stored.row);
-            }
+        if let Some(stored) = self.slots[slot]
+            && stored.place == place
+        {
+            return Ok(stored.row);
         }
         let row = self.below.row(place)?;
         self.slots[slot] = Some(Stored { place, row });

@@ -1,8 +1,10 @@
 // Layer 4: two dossiers, and what both agree on.
-ghost use Rattle.std.specs.Prelude.{◌≡◌, Ok, Err, Result};
-ghost use Rattle.dossier.specs.Meaning.{Made, head_answer};
-ghost use Rattle.layers.specs.Pair.{paired, common_answer, headed};
+ghost use Rattle.std.specs.Prelude.{◌≡◌};
+ghost use Rattle.std.specs.List.{slice_get};
+ghost use Rattle.dossier.specs.Meaning.{item_answer};
+ghost use Rattle.layers.specs.Pair.{Pairs, paired, common_list, common_answer};
 
+use dossier::listed::ListedRecord;
 use dossier::questions::Dossier;
 use dossier::record::{Head, Line, Record, Row};
 use dossier::refusal::{Fault, Part, Refusal};
@@ -19,13 +21,11 @@ pub struct Pair<A, B> {
 }
 
 impl<A: Dossier, B: Dossier> Pair<A, B> {
-    pub fn new(first: A, second: B) -> Pair<A, B>
+    pub fn new(mut first: A, mut second: B) -> Pair<A, B>
         requires { A.Dossier.rule first × B.Dossier.rule second }
-        ensures rule { A.Dossier.rule result.first × B.Dossier.rule result.second × Made (A.Dossier.meaning result.first) × Made (B.Dossier.meaning result.second) × (result.head ≡ head_answer (paired (A.Dossier.meaning result.first) (B.Dossier.meaning result.second))) }
-        ensures meant { paired (A.Dossier.meaning result.first) (B.Dossier.meaning result.second) ≡ paired (A.Dossier.meaning first) (B.Dossier.meaning second) }
+        ensures rule { ⟦<Pair<A, B> as Dossier>⟧.rule result }
+        ensures meant { ⟦<Pair<A, B> as Dossier>⟧.meaning result ≡ paired (A.Dossier.meaning first) (B.Dossier.meaning second) }
     {
-        let mut first = first;
-        let mut second = second;
         let head = common(first.head(), second.head(), Part::Head, 0);
         Pair {
             first,
@@ -46,7 +46,7 @@ fn common<R: Record>(
 {
     let first = first?;
     let second = second?;
-    if first.is_same(&second) {
+    if first == second {
         Ok(first)
     } else {
         Err(Refusal::Unreadable(Fault {
@@ -57,62 +57,44 @@ fn common<R: Record>(
     }
 }
 
-// Without a common head there are no items.
-fn under_head(head: Result<Head, Refusal>, part: Part, place: u32) -> Result<(), Refusal>
-    ensures { result ≡ headed head part place }
-{
-    match head {
-        Ok(_) => Ok(()),
-        Err(_) => Err(Refusal::Past { part, place }),
+impl<A: Dossier, B: Dossier> Pair<A, B> {
+    // The common record at a place; without a common head there are no items.
+    fn item<R: ListedRecord>(&mut self, place: u32) -> Result<R, Refusal>
+        requires { ⟦<Pair<A, B> as Dossier>⟧.rule self.old }
+        ensures kept { ⟦<Pair<A, B> as Dossier>⟧.rule self.new }
+        ensures same { ⟦<Pair<A, B> as Dossier>⟧.meaning self.new ≡ ⟦<Pair<A, B> as Dossier>⟧.meaning self.old }
+        ensures answer { result ≡ item_answer R.ListedRecord.PART place (slice_get (common_list R.Record.numbers R.ListedRecord.list (A.Dossier.meaning self.old.first) (B.Dossier.meaning self.old.second)) place) }
+    {
+        let part = R::PART;
+        self.head.map_err(|_| Refusal::Past { part, place })?;
+        let first = R::ask(&mut self.first, place);
+        let second = R::ask(&mut self.second, place);
+        common(first, second, part, place)
     }
 }
 
 impl<A: Dossier, B: Dossier> Dossier for Pair<A, B> {
     ghost meaning = { λ p. paired (A.Dossier.meaning p.first) (B.Dossier.meaning p.second) };
 
-    ghost rule = { λ p. A.Dossier.rule p.first × B.Dossier.rule p.second × Made (A.Dossier.meaning p.first) × Made (B.Dossier.meaning p.second) × (p.head ≡ head_answer (paired (A.Dossier.meaning p.first) (B.Dossier.meaning p.second))) };
+    ghost rule = { λ p. A.Dossier.rule p.first × B.Dossier.rule p.second × Pairs (A.Dossier.meaning p.first) (B.Dossier.meaning p.second) p.head };
 
     fn head(&mut self) -> Result<Head, Refusal> {
         self.head
     }
 
     fn instruction(&mut self, place: u32) -> Result<Instruction, Refusal> {
-        under_head(self.head, Part::Instruction, place)?;
-        common(
-            self.first.instruction(place),
-            self.second.instruction(place),
-            Part::Instruction,
-            place,
-        )
+        self.item(place)
     }
 
     fn word(&mut self, place: u32) -> Result<u32, Refusal> {
-        under_head(self.head, Part::Word, place)?;
-        common(
-            self.first.word(place),
-            self.second.word(place),
-            Part::Word,
-            place,
-        )
+        self.item(place)
     }
 
     fn line(&mut self, place: u32) -> Result<Line, Refusal> {
-        under_head(self.head, Part::Line, place)?;
-        common(
-            self.first.line(place),
-            self.second.line(place),
-            Part::Line,
-            place,
-        )
+        self.item(place)
     }
 
     fn row(&mut self, place: u32) -> Result<Row, Refusal> {
-        under_head(self.head, Part::Row, place)?;
-        common(
-            self.first.row(place),
-            self.second.row(place),
-            Part::Row,
-            place,
-        )
+        self.item(place)
     }
 }

@@ -1,38 +1,23 @@
 // Questions to the bytes of a file.
 ghost use Rattle.std.specs.Prelude.{◌≡◌};
 ghost use Rattle.codec.specs.Held.{meaning_of};
-ghost use Rattle.listing.specs.Answer.{answer_of};
+ghost use Rattle.listing.specs.Found.{answer_of};
 
-use crate::answer::Answer;
+use crate::found::Found;
 use codec::holder::ByteDossier;
 use dossier::questions::Dossier;
-use dossier::refusal::Part;
+use dossier::refusal::{Part, Refusal};
 
 // What the bytes answer to the question for a part and a place; the head has no place.
-pub fn answer(bytes: &[u8], part: Part, place: u32) -> Answer
+pub fn answer(bytes: &[u8], part: Part, place: u32) -> Result<Found, Refusal>
     ensures { result ≡ answer_of (meaning_of bytes.now) part place }
 {
     let mut dossier = ByteDossier::new(bytes);
     match part {
-        Part::Head => match dossier.head() {
-            Ok(head) => Answer::Head(head),
-            Err(refusal) => Answer::Refused(refusal),
-        },
-        Part::Instruction => match dossier.instruction(place) {
-            Ok(instruction) => Answer::Instruction(instruction),
-            Err(refusal) => Answer::Refused(refusal),
-        },
-        Part::Word => match dossier.word(place) {
-            Ok(word) => Answer::Word(word),
-            Err(refusal) => Answer::Refused(refusal),
-        },
-        Part::Line => match dossier.line(place) {
-            Ok(line) => Answer::Line(line),
-            Err(refusal) => Answer::Refused(refusal),
-        },
-        Part::Row => match dossier.row(place) {
-            Ok(row) => Answer::Row(row),
-            Err(refusal) => Answer::Refused(refusal),
-        },
+        Part::Head => dossier.head().map(Found::Head),
+        Part::Instruction => dossier.instruction(place).map(Found::Instruction),
+        Part::Word => dossier.word(place).map(Found::Word),
+        Part::Line => dossier.line(place).map(Found::Line),
+        Part::Row => dossier.row(place).map(Found::Row),
     }
 }

@@ -1,5 +1,5 @@
 // What a dossier in bytes answers, as text.
 #![tactic(auto)]
 
-pub mod answer;
 pub mod ask;
+pub mod found;

@@ -15,12 +15,10 @@ impl Turn {
         ensures answer { result ≡ item_at dossier.old self.unit }
     {
         match self.unit {
-            Unit::Instruction(place) => self
-                .need(dossier.instruction(place))
-                .map(Item::Instruction),
-            Unit::Word(place) => self.need(dossier.word(place)).map(Item::Word),
-            Unit::Line(place) => self.need(dossier.line(place)).map(Item::Line),
-            Unit::Row(place) => self.need(dossier.row(place)).map(Item::Row),
+            Unit::Instruction(place) => self.need(dossier.ask(place)).map(Item::Instruction),
+            Unit::Word(place) => self.need(dossier.ask(place)).map(Item::Word),
+            Unit::Line(place) => self.need(dossier.ask(place)).map(Item::Line),
+            Unit::Row(place) => self.need(dossier.ask(place)).map(Item::Row),
         }
     }
 }

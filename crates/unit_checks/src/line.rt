@@ -5,7 +5,7 @@ ghost use Rattle.rules.specs.Checks.{checked_instruction, checked_line, above, w
 use crate::turn::Turn;
 use dossier::opened::Opened;
 use dossier::questions::Dossier;
-use dossier::record::Line;
+use dossier::record::{Line, Row};
 use encoding::instruction::Instruction;
 use rules::finding::{Finding, Rule};
 use run_log::links::is_from_line;
@@ -45,7 +45,7 @@ impl Turn {
         let is_next = line.cell % 4 == 0 && is_above(former, line.cell);
         self.check(is_next, Rule::LineOrder)?;
         self.check(self.is_within(line.step), Rule::LineStep)?;
-        let row = self.need(dossier.row(line.step - 1))?;
+        let row = self.need(dossier.ask::<Row>(line.step - 1))?;
         self.check(is_from_line(row, u64::from(self.place())), Rule::LineStep)
     }
 }

@@ -5,7 +5,7 @@ ghost use Rattle.rules.specs.Checks.{checked_origin, checked_next};
 use crate::turn::Turn;
 use dossier::opened::Opened;
 use dossier::questions::Dossier;
-use dossier::record::Row;
+use dossier::record::{Line, Row};
 use rules::finding::{Finding, Rule};
 use run_log::links::{is_from_step, leads_to, opens};
 
@@ -22,13 +22,13 @@ impl Turn {
         match row {
             Row::FromLine(touch) => {
                 self.check(touch.origin < self.head.lines, Rule::Origin)?;
-                let line = self.need(dossier.line(touch.origin))?;
+                let line = self.need(dossier.ask::<Line>(touch.origin))?;
                 self.check(opens(line, touch, self.step()), Rule::Origin)
             }
             Row::FromStep(touch) => {
                 let is_earlier = (1..=self.place()).contains(&touch.origin);
                 self.check(is_earlier, Rule::Origin)?;
-                let former = self.need(dossier.row(touch.origin - 1))?;
+                let former = self.need(dossier.ask::<Row>(touch.origin - 1))?;
                 self.check(leads_to(former, touch, self.step()), Rule::Origin)
             }
             _ => Ok(()),
@@ -49,7 +49,7 @@ impl Turn {
         }
         let is_later = self.step() < u64::from(next) && next <= self.head.rows;
         self.check(is_later, Rule::Next)?;
-        let row = self.need(dossier.row(next - 1))?;
+        let row = self.need(dossier.ask::<Row>(next - 1))?;
         self.check(is_from_step(row, self.step()), Rule::Next)
     }
 }

@@ -8,6 +8,7 @@ use crate::turn::Turn;
 use dossier::opened::Opened;
 use dossier::questions::Dossier;
 use dossier::record::Row;
+use encoding::instruction::Instruction;
 use encoding::operation::{Operand, Operation};
 use machine::cpu::Cpu;
 use machine::step::{Demand, asks, execute};
@@ -35,7 +36,7 @@ impl Turn {
         ensures answer { result ≡ operation_at dossier.old self.head self.unit pc }
     {
         if pc < self.head.instructions {
-            let instruction = self.need(dossier.instruction(pc))?;
+            let instruction = self.need(dossier.ask::<Instruction>(pc))?;
             Ok(instruction.operation())
         } else {
             Ok(Operation::Answer {
@@ -56,7 +57,7 @@ impl Turn {
     {
         match step.demand {
             Demand::Primary if cpu.place < self.head.words => {
-                self.need(dossier.word(cpu.place)).map(Some)
+                self.need(dossier.ask::<u32>(cpu.place)).map(Some)
             }
             Demand::Primary => Ok(None),
             _ => Ok(input_of(step.row)),

@@ -2,10 +2,15 @@
 use Rattle.std.proofs.Common.{◌≡◌, ℕ, zero, suc, ◌+◌, ◌<◌, ◌≤◌, List, [], ◌∷◌, length, drop, Ok, Err, sym, refl, ap, ◌∙◌, arith}
 use Rattle.std.specs.List.{slice_get}
 use Rattle.std.proofs.lemmas.List.{drop_all}
+use Rattle.dossier.specs.declared.record.Head.{Head}
 use Rattle.dossier.specs.declared.refusal.Part.{Part}
 use Rattle.dossier.specs.declared.refusal.Refusal.{Refusal}
-use Rattle.dossier.specs.Meaning.{Item, Each, IsRecord, item_answer}
-use Rattle.writer.specs.Write.{first_fault}
+use Rattle.dossier.specs.Meaning.{Item, Meaning, Listed, Each, IsRecord, counted, item_answer}
+use Rattle.writer.specs.Write.{Headed, first_fault}
+
+-- the list of a kind of record is as long as the head says
+pub part_length : {R : Type 0} (m : Meaning) (h : Head) (count : Head → ℕ) (numbers : R → List ℕ) (xs : List (Item R)) → Headed m h → Listed m.head count numbers xs → length xs ≡ count h
+part_length m h count numbers xs under listed = listed.counts ∙ ap (λ x. counted x count) under.head
 
 module _ {R : Type 0} (p : Part) where
   pub fault_here : (j k : ℕ) (xs : List (Item R)) (e : Refusal) → k < length xs → Err e ≡ item_answer p j (slice_get xs k) → first_fault p j (drop k xs) ≡ Err e

@@ -1,5 +1,5 @@
 -- One more item is put after those of its part. Assumes nothing.
-use Rattle.std.proofs.Common.{◌≡◌, ℕ, zero, suc, ◌+◌, ◌-◌, ◌<◌, ◌≤◌, List, [], ◌∷◌, ◌++◌, length, get_or, take, drop, Some, Ok, Err, Option, sym, ap, ◌∙◌, arith, length-drop, length-take}
+use Rattle.std.proofs.Common.{◌≡◌, ℕ, zero, suc, ◌+◌, ◌-◌, ◌*◌, ◌<◌, ◌≤◌, List, [], ◌∷◌, ◌++◌, length, get_or, take, drop, Some, Ok, Err, Option, sym, ap, ◌∙◌, arith, length-drop, length-take}
 use borrow.Rule.Slice.PartMut.{put_mid}
 use Rattle.std.specs.List.{slice_get, flat_map}
 use Rattle.std.proofs.lemmas.List.{take_more, flat_map_more}
@@ -10,8 +10,16 @@ use Rattle.dossier.specs.Meaning.{Item, Each, IsRecord, item_answer}
 use Rattle.field.specs.Bytes.{Form, field_bytes}
 use Rattle.field.specs.Fields.{filled_is}
 use Rattle.codec.specs.Written.{item_bytes}
+use Rattle.codec.proofs.Items.{room}
 use Rattle.codec.proofs.PartForm.{length_item}
 use Rattle.writer.specs.Write.{put}
+
+-- the field at place k of a part ends within the file
+pub field_within : (start z size b k n m len : ℕ) → size ≡ z → b ≡ start → m ≡ n → k < m → start + z * n ≤ len → b + size * k + size ≤ len
+field_within start z size b k n m len e f c inside all =
+    let last = room z k n (omega arith) in
+    let same = ap (λ x. x * k) e in
+    omega arith
 
 pub record_at : {R : Type 0} (xs : List (Item R)) (k : ℕ) → Each IsRecord xs → k < length xs → IsRecord (get_or xs k (Err 0))
 record_at [] k all h = absurd (omega arith)

@@ -1,20 +1,26 @@
 -- What writing a dossier answers, and what it leaves in the bytes lent to it.
+--   Headed m h                  m is made, and h is its head
 --   first_fault p k xs          refusal 2 for the first unreadable item of a part, counted from k
 --   items_answer m              the same over the four parts
 --   write_answer m room         the answer: the head's refusal, then refusal 15, then an item's, else the length
 --   left answer new old         the bytes after the answer: new and the rest of old, or old where it is a refusal
 --   write_number, write_values  the number of a refusal, and the values that it returns
-use Rattle.std.specs.Prelude.{ℕ, ◌+◌, cond, List, [], ◌∷◌, ◌++◌, drop, Ok, Err, Result, nat_le}
+use Rattle.std.specs.Prelude.{◌≡◌, ℕ, ◌+◌, cond, List, [], ◌∷◌, ◌++◌, drop, Ok, Err, Result, nat_le}
 use Rattle.dossier.specs.declared.record.Head.{Head}
 use Rattle.dossier.specs.declared.refusal.Part.{Part}
 use Rattle.dossier.specs.declared.refusal.Part.TheVariants as part
 use Rattle.dossier.specs.declared.refusal.Refusal.{Refusal}
 use Rattle.dossier.specs.declared.refusal.Refusal.TheVariants.{Unreadable}
-use Rattle.dossier.specs.Meaning.{Item, Meaning, head_answer, refusal_number, refusal_values}
+use Rattle.dossier.specs.Meaning.{Item, Meaning, Made, head_answer, refusal_number, refusal_values}
 use Rattle.field.specs.Bytes.{field_bytes, filled}
 use Rattle.writer.specs.declared.refusal.WriteRefusal.{WriteRefusal}
 use Rattle.writer.specs.declared.refusal.WriteRefusal.TheVariants.{Asked, Room}
 use Rattle.codec.specs.Layout.{file_size}
+
+-- a dossier that is made, and its head
+pub record Headed (m : Meaning) (h : Head) : Type 0 where
+  pub made : Made m
+  pub head : m.head ≡ Ok h
 
 abbrev pub first_fault : {R : Type 0} → Part → ℕ → List (Item R) → Result Unit Refusal
 first_fault p k [] = Ok tt

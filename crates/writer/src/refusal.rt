@@ -37,11 +37,8 @@ impl WriteRefusal {
         ensures { result ≡ slice_get (write_values self.now) place }
     {
         match self {
-            WriteRefusal::Asked(refusal) => match refusal.value(place) {
-                Some(value) => Some(u64::from(value)),
-                None => None,
-            },
-            WriteRefusal::Room { needed } => { if place == 0 { Some(*needed) } else { None } }
+            WriteRefusal::Asked(refusal) => refusal.value(place).map(u64::from),
+            WriteRefusal::Room { needed } => [*needed].get(place).copied(),
         }
     }
 }

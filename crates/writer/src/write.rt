@@ -1,10 +1,10 @@
 // The writer of any dossier into lent bytes.
 ghost use Rattle.std.specs.Prelude.{◌≡◌, ℕ, length, take, Ok};
-ghost use Rattle.dossier.specs.Meaning.{Made, Readable};
+ghost use Rattle.dossier.specs.Meaning.{Readable};
 ghost use Rattle.codec.specs.Layout.{file_size};
 ghost use Rattle.codec.specs.Held.{meaning_of};
 ghost use Rattle.codec.specs.Written.{written};
-ghost use Rattle.writer.specs.Write.{items_answer, write_answer, left};
+ghost use Rattle.writer.specs.Write.{Headed, items_answer, write_answer, left};
 
 use crate::parts::{put_part, try_part};
 use crate::refusal::WriteRefusal;
@@ -18,23 +18,21 @@ use field::kind::write_field;
 // The refusal of the first item that is not a record, part by part, if any.
 fn try_items<D: Dossier>(dossier: &mut D, head: Head) -> Result<(), Refusal>
     requires rule { D.Dossier.rule dossier.old }
-    requires made { Made (D.Dossier.meaning dossier.old) }
-    requires under { (D.Dossier.meaning dossier.old).head ≡ Ok head }
+    requires under { Headed (D.Dossier.meaning dossier.old) head }
     ensures kept { D.Dossier.rule dossier.new }
     ensures same { D.Dossier.meaning dossier.new ≡ D.Dossier.meaning dossier.old }
     ensures answer { result ≡ items_answer (D.Dossier.meaning dossier.old) }
 {
-    try_part::<Instruction, D>(dossier, head.instructions)?;
-    try_part::<u32, D>(dossier, head.words)?;
-    try_part::<Line, D>(dossier, head.lines)?;
-    try_part::<Row, D>(dossier, head.rows)
+    try_part::<Instruction, D>(dossier, head)?;
+    try_part::<u32, D>(dossier, head)?;
+    try_part::<Line, D>(dossier, head)?;
+    try_part::<Row, D>(dossier, head)
 }
 
 // Writes the head and every item.
 fn put_items<D: Dossier>(dossier: &mut D, head: Head, out: &mut [u8])
     requires rule { D.Dossier.rule dossier.old }
-    requires made { Made (D.Dossier.meaning dossier.old) }
-    requires under { (D.Dossier.meaning dossier.old).head ≡ Ok head }
+    requires under { Headed (D.Dossier.meaning dossier.old) head }
     requires readable { Readable (D.Dossier.meaning dossier.old) }
     requires room { length out.old ≡ file_size head }
     ensures kept { D.Dossier.rule dossier.new }
@@ -42,10 +40,10 @@ fn put_items<D: Dossier>(dossier: &mut D, head: Head, out: &mut [u8])
     ensures bytes { out.new ≡ written (D.Dossier.meaning dossier.old) }
 {
     write_field(&head, &mut out[0..HEAD_SIZE]);
-    let words = put_part::<Instruction, D>(dossier, head.instructions, HEAD_SIZE, out);
-    let lines = put_part::<u32, D>(dossier, head.words, words, out);
-    let rows = put_part::<Line, D>(dossier, head.lines, lines, out);
-    put_part::<Row, D>(dossier, head.rows, rows, out);
+    put_part::<Instruction, D>(dossier, head, out);
+    put_part::<u32, D>(dossier, head, out);
+    put_part::<Line, D>(dossier, head, out);
+    put_part::<Row, D>(dossier, head, out);
 }
 
 // Writes a dossier at the start of `out`, once its head, the room and every item were tried, and answers the length.

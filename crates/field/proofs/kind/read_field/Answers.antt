@@ -8,5 +8,5 @@ returns g c =
     let bs = c.args.field.now in
     let whole : take (length bs - 3) (drop 3 bs) ≡ drop 3 bs = take_all (length bs - 3) (drop 3 bs) (simp length-drop (omega arith)) in
     let len = ap length whole in
-    let passes : (eqb (length bs) (3 + g.K.Kind.sized) && (eqb (get_or bs 0 0) g.K.Kind.tagged && eqb (get_or bs 1 0 + get_or bs 2 0 * 256) g.K.Kind.sized)) ≡ true = let count = length-drop 3 bs in grind (arith, nat_tests) in
+    let passes : (eqb (length bs) (3 + g.K.Kind.SIZE) && (eqb (get_or bs 0 0) g.K.Kind.TAG && eqb (get_or bs 1 0 + get_or bs 2 0 * 256) g.K.Kind.SIZE)) ≡ true = let count = length-drop 3 bs in grind (arith, nat_tests) in
     c.read.ensures ∙ ap g.K.Kind.parsed whole ∙ sym (ap (λ (b : Bool). cond b (g.K.Kind.parsed (drop 3 bs)) None) passes)

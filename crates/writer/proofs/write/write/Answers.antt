@@ -17,8 +17,7 @@ put_items-requires g c =
     let answers : items_answer m ≡ Ok tt = ap items_answer (sym a.same) ∙ sym b.answer in
     record {
       rule = b.kept;
-      made = subst Made (sym same) a.made;
-      under = ap (λ (x : Meaning). x.head) same ∙ under;
+      under = record { made = subst Made (sym same) a.made; head = ap (λ (x : Meaning). x.head) same ∙ under };
       readable = subst Readable (sym same) (all_readable m h under answers);
       room = let e = length-take (c.file_size-size.result - 0) c.args.out.now in omega (arith, c.file_size-size.ensures, c.if-out-size.false);
     }

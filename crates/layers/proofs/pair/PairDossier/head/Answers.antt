@@ -8,6 +8,6 @@ returns g c =
     record {
       kept = c.requires;
       same = refl;
-      made = made_pair (g.A.Dossier.meaning pair.first) (g.B.Dossier.meaning pair.second) c.requires.2 c.requires.3;
-      answer = c.requires.4;
+      made = made_pair (g.A.Dossier.meaning pair.first) (g.B.Dossier.meaning pair.second) c.requires.2.first c.requires.2.second;
+      answer = c.requires.2.both_say;
     }
