@@ -1,6 +1,6 @@
 // A search tree by the digits of the cell. No search in it is longer than a cell has digits.
-// std's `HashMap`, with its room reserved, was tried in its place: 500,000 new cells took 64 to 70 ms by themselves,
-// where a whole run that opens them by rising addresses takes 79 ms with this tree.
+// std's `HashMap`, with its room reserved, was tried in its place: 500,000 new cells by rising addresses took 70 ms by
+// themselves, where the whole run that opens them takes 66 to 79 ms with this tree.
 ghost use Rattle.std.specs.Prelude.{◌≡◌, ◌+◌, length, [], IfOk, slice_set};
 ghost use Rattle.index.specs.Cells.{Apart, renewed};
 ghost use Rattle.index.specs.Tree.{Kept, Finds};
@@ -13,7 +13,8 @@ use std::marker::Model;
 
 // The entries by number, and the links between them. A slot of `links` holds 0, or one more than the number of an entry.
 // The first `limit + 1` slots are by the cell's lowest digit; entry k has the four slots from `limit + 1 + 4 * k` on,
-// by its next digit. `Option<u32>` in place of the 0 would take twice the room.
+// by its next digit. `Option<u32>` in place of the 0 was tried: it takes twice the room, and to make the links and open
+// 500,000 cells took 170 to 330 ms, where 0 takes 55 to 100.
 #[derive(Drop)]
 pub struct CellMap {
     entries: Vec<CellEntry>,

@@ -1,4 +1,3 @@
-pub mod Admitted
 pub mod Steps
 pub mod Memory
 pub mod Machine

@@ -1,14 +1,13 @@
--- The start, and the whole run.
+-- The whole run.
 -- Assumes nothing.
-use Rattle.std.proofs.Common.{◌≡◌, ℕ, zero, suc, ◌+◌, ◌%◌, ◌<◌, ◌≤◌, true, false, List, [], ◌++◌, length, get_or, drop, None, Ok, Option, Result, sym, refl, ap, ◌∙◌, subst, inl, inr, arith}
+use Rattle.std.proofs.Common.{◌≡◌, ℕ, zero, suc, ◌+◌, ◌%◌, ◌<◌, ◌≤◌, true, false, List, ◌++◌, length, get_or, drop, None, Ok, Option, Result, sym, refl, ap, ◌∙◌, subst, inl, inr, arith}
 use Rattle.std.proofs.lemmas.List.{take-append-drop, take_all, get_or_default, length-drop, get_or-drop, get_or_past, same_lists}
 use Rattle.std.proofs.lemmas.Bool.{cases_lt, eqb-true, both_ways}
-use Rattle.machine.specs.State.{start}
 use Rattle.machine.specs.declared.cpu.Cpu.{Cpu}
 use Rattle.dossier.specs.declared.record.Row.{Row}
 use Rattle.dossier.specs.declared.record.Row.TheVariants.{Plain}
 use Rattle.run_log.specs.Log.{Event, quiet, zeroed, event_at, hits, log_rows, Aligned}
-use Rattle.run_log.specs.Rules.{row_at, kind_of}
+use Rattle.run_log.specs.Rules.{row_at}
 use Rattle.run_log.specs.Run.{Demand, alone, advice, access, answer, Config, asked, shown, heard}
 use Rattle.run_log.proofs.Along.{trace_at, length_trace, heard_misses}
 use Rattle.tinyram.proofs.Run.{fourths}
@@ -22,39 +21,8 @@ use Rattle.runner.specs.declared.refusal.RunRefusal.{RunRefusal}
 use Rattle.runner.specs.Ending.{ending, steps_in, run_of, log_cells}
 use Rattle.runner.specs.Ran.{Answers}
 use Rattle.runner.specs.Filling.{Beyond, Filling, machine_of, config_at, event_of_step}
-use Rattle.runner.specs.Going.{At}
 use Rattle.runner.specs.Label.{first_of, Openings, Labelled}
 use Rattle.runner.proofs.Finish.{openings, rows_are, cells_are, count_is}
-
--- THE START
-
-no_touch : (rows : List Row) (t : ℕ) → t ≤ 0 → kind_of (row_at rows t) ≡ 0
-no_touch rows zero h = refl
-no_touch rows (suc i) h = absurd (omega arith)
-
-pub started : (i : Job) (x : Cells) (rows : List Row) → x.entries ≡ [] → i.bound ≤ x.limit → i.bound ≤ length rows → i.bound ≤ 1000000 → At i 0 start i.auxiliary.now x rows
-started i x rows none room row_room short =
-    let n : length x.entries ≡ 0 = ap length none in
-    record {
-      state = refl;
-      tape = refl;
-      filling = record {
-        sofar = record {
-          shown = λ t a. absurd (omega arith);
-          firsts = λ t a k. let z = no_touch rows t a in absurd (omega arith);
-          laters = λ t a k. let z = no_touch rows t a in absurd (omega arith);
-          nexts = λ t a k. let z = no_touch rows t a in absurd (omega (arith, k.0));
-          opens = λ k l. absurd (omega arith);
-          lasts = λ k l. absurd (omega arith);
-        };
-        holds = record { held = λ k l. absurd (omega arith); clear = λ c f. refl };
-        apart = λ j k l m e. absurd (omega arith);
-        room = room;
-        few = omega arith;
-        row_room = row_room;
-        short = short;
-      };
-    }
 
 -- THE END
 
