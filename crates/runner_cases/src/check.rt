@@ -7,7 +7,6 @@ use runner::refusal::RunRefusal;
 use runner::run::run;
 use std::alloc::Global;
 use std::fmt::Debug;
-use std::iter;
 use std::process::Abort;
 use std::test::Fail;
 
@@ -37,10 +36,10 @@ pub struct Room {
 
 // Whether a table begins with the entries expected, and has its mark beyond.
 fn check_table<T: Copy + PartialEq + Debug>(rt: &impl Abort, table: &[T], expected: &[T], mark: T) {
-    let wanted = expected.iter().copied().chain(iter::repeat(mark));
-    for (entry, wanted) in table.iter().zip(wanted) {
-        assert_eq!(rt; *entry, wanted);
-    }
+    assert!(rt; expected.len() <= table.len());
+    let (front, rest) = table.split_at(expected.len());
+    assert_eq!(rt; front, expected);
+    assert!(rt; rest.iter().all(|entry| *entry == mark));
 }
 
 // Whether a run ends so, with these rows and entries.
