@@ -80,22 +80,24 @@ def test_text(name, why, program, primary, auxiliary, bound):
         first, second = encode(text)
         out += ["        // " + text, "        Instruction { first: %d, second: %d }," % (first, second)]
     out += ["    ];", "    let rows = [%s];" % ", ".join(row_text(row) for row in rows)]
-    shown = "Ending::Answered { value: %d, step: %d }" % ending if ending else "Ending::OutOfSteps"
-    entries = ", ".join("(%d, %d, %d, %d)" % entry for entry in cells)
-    out += ["    let cells: [(u32, u32, u32, u32); %d] = [%s];" % (len(cells), entries),
-            "    let primary: [u32; %d] = %s;" % (len(primary), primary),
-            "    let auxiliary: [u32; %d] = %s;" % (len(auxiliary), auxiliary),
-            "    let run = Run { ending: %s, cells: %d };" % (shown, len(cells)),
-            "    check_run(&rt, rt.alloc(), &program, &primary, &auxiliary, %d, run, &rows, &cells);" % bound, "}"]
+    answer = "Some(Answered { value: %d, step: %d })" % ending if ending else "None"
+    entries = ", ".join("CellEntry { cell: %d, first: %d, last: %d, value: %d }" % entry for entry in cells)
+    out += ["    let cells = [%s];" % entries,
+            "    let job = Job { program: &program, primary: &%s, auxiliary: &%s, bound: %d };" % (primary, auxiliary, bound),
+            "    let run = Run { answer: %s, cells: %d };" % (answer, len(cells)),
+            "    let log = Log { run, rows: &rows, cells: &cells };",
+            "    check_run(&rt, rt.alloc(), job, log);", "}"]
     return "\n".join(out)
 
 
 HEAD = """// Runs and their logs.
 // Made by tools/runs.py.
-use crate::check::check_run;
+use crate::check::{Log, check_run};
 use dossier::record::{Row, Touch};
 use encoding::instruction::Instruction;
-use runner::ending::{Ending, Run};
+use index::entry::CellEntry;
+use runner::ending::{Answered, Run};
+use runner::job::Job;
 
 """
 

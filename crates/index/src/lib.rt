@@ -1,6 +1,5 @@
-// A map from cells to their entries, in a table that its user lends.
+// A map from cells to their entries, all of whose room is taken when it is made.
 #![tactic(auto)]
 
 pub mod entry;
-pub mod order;
-pub mod tree;
+pub mod map;

@@ -1,10 +1,11 @@
-pub mod Admitted
 pub mod Steps
 pub mod Memory
 pub mod Machine
 pub mod Tables
 pub mod Onward
+pub mod Touching
 pub mod Ends
+pub mod Finishing
 pub mod Labels
 pub mod Finish
 pub mod Whole

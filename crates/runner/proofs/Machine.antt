@@ -8,11 +8,11 @@ use Rattle.machine.specs.Effects as effects
 use Rattle.run_log.specs.Log.{Event, quiet, touch}
 use Rattle.run_log.specs.Run.{Config, given, shown, stored, unread, head, tail, heard}
 use Rattle.tinyram.specs.Program.{outside, supplied, operation, demand}
-use Rattle.runner.specs.declared.state.Input.{Input}
+use Rattle.runner.specs.declared.job.Job.{Job}
 use Rattle.runner.specs.Ending.{halted}
 use Rattle.runner.specs.Filling.{machine_of, config_at, event_of_step, Quiet}
 
-module _ (i : Input) (T : ℕ) where
+module _ (i : Job) (T : ℕ) where
   abbrev g : Config Cpu
   g = config_at i T
 

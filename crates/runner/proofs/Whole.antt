@@ -1,63 +1,28 @@
--- The start, and the whole run.
+-- The whole run.
 -- Assumes nothing.
 use Rattle.std.proofs.Common.{◌≡◌, ℕ, zero, suc, ◌+◌, ◌%◌, ◌<◌, ◌≤◌, true, false, List, ◌++◌, length, get_or, drop, None, Ok, Option, Result, sym, refl, ap, ◌∙◌, subst, inl, inr, arith}
-use Rattle.std.proofs.lemmas.List.{take-append-drop, get_or_default, length-drop, get_or-drop, get_or_past, same_lists}
+use Rattle.std.proofs.lemmas.List.{take-append-drop, take_all, get_or_default, length-drop, get_or-drop, get_or_past, same_lists}
 use Rattle.std.proofs.lemmas.Bool.{cases_lt, eqb-true, both_ways}
-use Rattle.machine.specs.State.{start}
 use Rattle.machine.specs.declared.cpu.Cpu.{Cpu}
 use Rattle.dossier.specs.declared.record.Row.{Row}
 use Rattle.dossier.specs.declared.record.Row.TheVariants.{Plain}
 use Rattle.run_log.specs.Log.{Event, quiet, zeroed, event_at, hits, log_rows, Aligned}
-use Rattle.run_log.specs.Rules.{row_at, kind_of}
+use Rattle.run_log.specs.Rules.{row_at}
 use Rattle.run_log.specs.Run.{Demand, alone, advice, access, answer, Config, asked, shown, heard}
 use Rattle.run_log.proofs.Along.{trace_at, length_trace, heard_misses}
 use Rattle.tinyram.proofs.Run.{fourths}
 use Rattle.tinyram.specs.Program.{lines_of, events_in}
 use Rattle.index.specs.declared.entry.CellEntry.{CellEntry}
-use Rattle.index.specs.declared.tree.Index.{Index}
-use Rattle.index.specs.Tree.{none}
-use Rattle.index.specs.Map.{Keeps, RoomFor}
+use Rattle.index.specs.Cells.{Cells, none}
 use Rattle.index.specs.Order.{Arranged}
-use Rattle.runner.specs.declared.state.Input.{Input}
+use Rattle.runner.specs.declared.job.Job.{Job}
 use Rattle.runner.specs.declared.ending.Run.{Run}
 use Rattle.runner.specs.declared.refusal.RunRefusal.{RunRefusal}
 use Rattle.runner.specs.Ending.{ending, steps_in, run_of, log_cells}
 use Rattle.runner.specs.Ran.{Answers}
-use Rattle.runner.specs.Filling.{Beyond, Filling, machine_of, config_at, event_of_step, Going}
+use Rattle.runner.specs.Filling.{Beyond, Filling, machine_of, config_at, event_of_step}
 use Rattle.runner.specs.Label.{first_of, Openings, Labelled}
 use Rattle.runner.proofs.Finish.{openings, rows_are, cells_are, count_is}
-
--- THE START
-
-no_touch : (rows : List Row) (t : ℕ) → t ≤ 0 → kind_of (row_at rows t) ≡ 0
-no_touch rows zero h = refl
-no_touch rows (suc i) h = absurd (omega arith)
-
-pub started : (i : Input) (x : Index) (rows : List Row) (cells : List CellEntry) (cpu : Cpu) → cpu ≡ start → Keeps x cells 0 → RoomFor x i.bound →
-    i.bound ≤ length rows → i.bound ≤ length cells → i.bound ≤ 1000000 →
-    Going i (record { steps = 0; cpu = cpu; heard = 0; cells = 0; answer = None }) x rows cells
-started i x rows cells cpu e keeps room row_room cell_room short = record {
-  cpu = e;
-  tape = refl;
-  fit = omega arith;
-  filling = record {
-    sofar = record {
-      shown = λ t a. absurd (omega arith);
-      firsts = λ t a k. let z = no_touch rows t a in absurd (omega arith);
-      laters = λ t a k. let z = no_touch rows t a in absurd (omega arith);
-      nexts = λ t a k. let z = no_touch rows t a in absurd (omega (arith, k.0));
-      opens = λ k l. absurd (omega arith);
-      lasts = λ k l. absurd (omega arith);
-    };
-    holds = record { held = λ k l. absurd (omega arith); clear = λ c f. refl };
-    keeps = keeps;
-    room = room;
-    few = omega arith;
-    row_room = row_room;
-    cell_room = cell_room;
-    short = short;
-  };
-}
 
 -- THE END
 
@@ -67,18 +32,24 @@ same_drop n xs ys e h =
     let b = length-drop n ys in
     same_lists (drop n ys) (drop n xs) (omega arith) (λ k d l. get_or-drop n ys k d ∙ h (n + k) d (omega arith) (omega arith) ∙ sym (get_or-drop n xs k d))
 
-module _ (i : Input) (T n : ℕ) (mem : ℕ → ℕ) (x : Index) (rows0 rows1 rows2 : List Row) (cells0 cells1 zs : List CellEntry)
-    (f : Filling (event_of_step i) mem i.bound T n x rows1 cells1) (made : T ≤ i.bound)
-    (beyond : Beyond T rows0 rows1) (past : Beyond n cells0 cells1) (a : Arranged n cells1 zs) where
+module _ (i : Job) (T : ℕ) (mem : ℕ → ℕ) (x : Cells) (rows0 rows1 rows2 : List Row) (zs : List CellEntry)
+    (f : Filling (event_of_step i) mem i.bound T x rows1) (made : T ≤ i.bound)
+    (beyond : Beyond T rows0 rows1) (a : Arranged (length x.entries) x.entries zs) where
+  abbrev n : ℕ
+  n = length x.entries
+
   abbrev evs : List Event
   evs = events_in i.program.now i.primary.now i.auxiliary.now T
 
-  pub opens : Openings n (length rows1) (first_of zs)
+  pub opens : Openings (length zs) (length rows1) (first_of zs)
   opens =
-      let o = openings rows1 cells1 zs f.sofar a in
-      record { above = o.above; inside = λ j l. let z = o.inside j l in omega (arith, f.row_room); apart = o.apart }
+      let o = openings rows1 x.entries zs f.sofar a in
+      rw a.long (record { above = o.above; inside = λ j l. let z = o.inside j l in omega (arith, f.row_room); apart = o.apart })
 
-  module _ (l : Labelled n (first_of zs) (row_at rows1) (row_at rows2)) (long : length rows2 ≡ length rows1) where
+  module _ (by_zs : Labelled (length zs) (first_of zs) (row_at rows1) (row_at rows2)) (long : length rows2 ≡ length rows1) where
+    l : Labelled n (first_of zs) (row_at rows1) (row_at rows2)
+    l = let P : ℕ → Type 0 = λ u. Labelled u (first_of zs) (row_at rows1) (row_at rows2) in subst P a.long by_zs
+
     whole_length : T ≡ length evs
     whole_length = sym (length_trace (machine_of i) i.auxiliary.now T)
 
@@ -102,41 +73,35 @@ module _ (i : Input) (T n : ℕ) (mem : ℕ → ℕ) (x : Index) (rows0 rows1 ro
 
     rest_rows : drop T rows2 ≡ drop T rows0
     rest_rows = same_drop T rows0 rows2 (long ∙ beyond.long) (λ k d h r.
-        let o = openings rows1 cells1 zs f.sofar a in
+        let o = openings rows1 x.entries zs f.sofar a in
         let e : get_or rows2 k Plain ≡ get_or rows1 k Plain = l.rest (suc k) (λ j lj q. let z = o.inside j lj in omega arith) in
         let p : k < length rows1 = omega (arith, beyond.long) in
         get_or_default rows2 k d Plain (omega arith) ∙ e ∙ get_or_default rows1 k Plain d p ∙ beyond.same k d h)
-
-    rest_cells : drop n zs ≡ drop n cells0
-    rest_cells = same_drop n cells0 zs (a.long ∙ past.long) (λ k d h r.
-        let p : k < length cells1 = omega (arith, past.long) in
-        get_or_default zs k d none (omega (arith, a.long)) ∙ a.beyond k h ∙ get_or_default cells1 k none d p ∙ past.same k d h)
 
     room : T ≤ length rows2
     room = omega (arith, f.row_room)
 
     few : n ≤ length zs
-    few = omega (arith, f.few, f.cell_room, a.long)
+    few = omega (arith, a.long)
 
     pub whole_rows : rows2 ≡ log_rows zeroed evs ++ drop T rows0
-    whole_rows = sym (take-append-drop T rows2) ∙ ap (λ u. u ++ drop T rows2) (rows_are rows1 cells1 zs f.sofar a rows2 l evs shows whole_length room few aligned)
+    whole_rows = sym (take-append-drop T rows2) ∙ ap (λ u. u ++ drop T rows2) (rows_are rows1 x.entries zs f.sofar a rows2 l evs shows whole_length room few aligned)
         ∙ ap (λ u. log_rows zeroed evs ++ u) rest_rows
 
-    pub whole_cells : zs ≡ log_cells evs ++ drop n cells0
-    whole_cells = sym (take-append-drop n zs) ∙ ap (λ u. u ++ drop n zs) (cells_are rows1 cells1 zs f.sofar a rows2 l evs shows whole_length room few aligned)
-        ∙ ap (λ u. log_cells evs ++ u) rest_cells
+    pub whole_cells : zs ≡ log_cells evs
+    whole_cells = sym (take_all n zs (omega (arith, a.long))) ∙ cells_are rows1 x.entries zs f.sofar a rows2 l evs shows whole_length room few aligned
 
-    pub whole_count : n ≡ length (lines_of i.program.now i.primary.now i.auxiliary.now T)
-    whole_count = count_is rows1 cells1 zs f.sofar a rows2 l evs shows whole_length room few aligned
+    pub whole_count : length zs ≡ length (lines_of i.program.now i.primary.now i.auxiliary.now T)
+    whole_count = a.long ∙ count_is rows1 x.entries zs f.sofar a rows2 l evs shows whole_length room few aligned
 
 -- THE ANSWER
 
 pub answered : (r : Result Run RunRefusal) (e : Option RunRefusal) (a : Run) → None ≡ e → r ≡ Ok a → Answers r e a
 answered r e a none is = let P : Option RunRefusal → Type 0 = λ u. Answers r u a in subst P none (inl is)
 
-pub run_is : (i : Input) (r : Run) → r.ending ≡ ending i.program.now i.primary.now i.auxiliary.now i.bound →
-    r.cells ≡ length (lines_of i.program.now i.primary.now i.auxiliary.now (steps_in i.bound r.ending)) →
+pub run_is : (i : Job) (r : Run) → r.answer ≡ ending i.program.now i.primary.now i.auxiliary.now i.bound →
+    r.cells ≡ length (lines_of i.program.now i.primary.now i.auxiliary.now (steps_in i.bound r.answer)) →
     r ≡ run_of i.program.now i.primary.now i.auxiliary.now i.bound
 run_is i r ends count =
     let n = count ∙ ap (λ e. length (lines_of i.program.now i.primary.now i.auxiliary.now (steps_in i.bound e))) ends in
-    λ j. record { ending = ends j; cells = n j }
+    λ j. record { answer = ends j; cells = n j }

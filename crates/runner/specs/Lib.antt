@@ -3,4 +3,5 @@ pub mod Ending
 pub mod Ran
 pub mod Sofar
 pub mod Filling
+pub mod Going
 pub mod Label

@@ -21,9 +21,9 @@ Answers r None a = (r ≡ Ok a) ⊎ (r ≡ Err OutOfMemory)
 
 module _ (p : List Instruction) (primary aux : List ℕ) (b : ℕ) where
   abbrev pub rows_after : Result Run RunRefusal → List Row → List Row
-  rows_after (Ok a) rows = rows_of p primary aux (steps_in b a.ending) ++ drop (steps_in b a.ending) rows
+  rows_after (Ok a) rows = rows_of p primary aux (steps_in b a.answer) ++ drop (steps_in b a.answer) rows
   rows_after (Err e) rows = rows
 
   abbrev pub cells_after : Result Run RunRefusal → List CellEntry → List CellEntry
-  cells_after (Ok a) cells = cells_of p primary aux (steps_in b a.ending) ++ drop a.cells cells
+  cells_after (Ok a) cells = cells_of p primary aux (steps_in b a.answer) ++ drop a.cells cells
   cells_after (Err e) cells = cells

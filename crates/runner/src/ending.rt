@@ -1,14 +1,13 @@
-// How a run ends, and how many cells it has touched.
+// The answer of a run, and the step, counted from 1, that executes `answer` with it.
 #[derive(Clone, Copy, PartialEq, Debug)]
-pub enum Ending {
-    // the step, counted from 1, executes `answer` with this value
-    Answered { value: u32, step: u32 },
-    // no step within the bound answers
-    OutOfSteps,
+pub struct Answered {
+    pub value: u32,
+    pub step: u32,
 }
 
+// How a run ends: with its answer, or with none where no step within the bound answers; and how many cells it has touched.
 #[derive(Clone, Copy, PartialEq, Debug)]
 pub struct Run {
-    pub ending: Ending,
+    pub answer: Option<Answered>,
     pub cells: u32,
 }

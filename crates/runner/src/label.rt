@@ -19,15 +19,14 @@ fn with_line(row: Row, line: u32) -> Row
     }
 }
 
-// Gives each of the first `count` cells' first touches its line.
-pub fn label(rows: &mut [Row], cells: &[CellEntry], count: usize)
-    requires openings { Openings count (length rows.old) (first_of cells.now) }
-    requires within { count ≤ length cells.now }
-    requires short { count < 2 ^ 32 }
-    ensures { Labelled count (first_of cells.now) (row_at rows.old) (row_at rows.new) }
+// Gives the first touch of each of these cells its line.
+pub fn label(rows: &mut [Row], cells: &[CellEntry])
+    requires openings { Openings (length cells.now) (length rows.old) (first_of cells.now) }
+    requires short { length cells.now < 2 ^ 32 }
+    ensures { Labelled (length cells.now) (first_of cells.now) (row_at rows.old) (row_at rows.new) }
 {
-    for line in 0..count {
-        let at = cells[line].first as usize - 1;
+    for (line, entry) in cells.iter().enumerate() {
+        let at = entry.first as usize - 1;
         rows[at] = with_line(rows[at], line as u32);
     }
 }

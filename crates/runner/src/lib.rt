@@ -2,10 +2,10 @@
 #![tactic(auto)]
 
 pub mod ending;
+pub mod job;
 mod label;
 mod limits;
+mod log;
 pub mod refusal;
 pub mod run;
-mod state;
-mod step;
 mod touch;

@@ -1,7 +1,9 @@
 // What is tried before a run begins.
-ghost use Rattle.std.specs.Prelude.{◌≡◌, length};
-ghost use Rattle.runner.specs.Refused.{limit_broken, first_ill_formed, refused};
+ghost use Rattle.std.specs.Prelude.{◌≡◌, length, ◌≤◌, None};
+ghost use Rattle.std.specs.Result.{result_err};
+ghost use Rattle.runner.specs.Refused.{limit_broken, limit_refused, first_ill_formed, form_refused, room_wanted, refused};
 
+use crate::job::Job;
 use crate::refusal::{Limit, RunRefusal};
 use dossier::record::Row;
 use encoding::instruction::Instruction;
@@ -13,53 +15,59 @@ const MAX_PRIMARY: usize = 4096;
 
 const MAX_BOUND: u32 = 1_000_000;
 
-// The first number that is outside its limits.
-fn limit_broken(program: &[Instruction], primary: &[u32], bound: u32) -> Option<Limit>
-    ensures { result ≡ limit_broken (length program.now) (length primary.now) bound }
+// Whether each number is within its limits.
+fn check_limits(job: Job) -> Result<(), RunRefusal>
+    ensures { result_err result ≡ limit_refused (limit_broken (length job.entry.program.now) (length job.entry.primary.now) job.entry.bound) None }
 {
-    if program.len() == 0 || program.len() > MAX_PROGRAM {
-        Some(Limit::Program)
-    } else if primary.len() > MAX_PRIMARY {
-        Some(Limit::Primary)
-    } else if bound == 0 || bound > MAX_BOUND {
-        Some(Limit::Bound)
+    if job.program.is_empty() || job.program.len() > MAX_PROGRAM {
+        Err(RunRefusal::Outside(Limit::Program))
+    } else if job.primary.len() > MAX_PRIMARY {
+        Err(RunRefusal::Outside(Limit::Primary))
+    } else if job.bound == 0 || job.bound > MAX_BOUND {
+        Err(RunRefusal::Outside(Limit::Bound))
     } else {
-        None
+        Ok(())
     }
 }
 
 // The place of the first ill-formed instruction.
 fn first_ill_formed(program: &[Instruction]) -> Option<usize>
-    ensures { result ≡ first_ill_formed 0 program.now }
+    ensures { result ≡ first_ill_formed program.now }
 {
-    for place in 0..program.len() {
-        if !program[place].well_formed() {
-            return Some(place);
-        }
-    }
-    None
+    program
+        .iter()
+        .position(|instruction| !instruction.well_formed())
 }
 
-// The refusal of a run, if there is one.
-pub fn refusal(
-    program: &[Instruction],
-    primary: &[u32],
-    bound: u32,
-    rows: &[Row],
-    cells: &[CellEntry],
-) -> Option<RunRefusal>
-    ensures { result ≡ refused program.now primary.now bound (length rows.now) (length cells.now) }
+// Whether each instruction of a program that is not too long is well-formed.
+fn check_form(program: &[Instruction]) -> Result<(), RunRefusal>
+    requires { length program.now ≤ 4096 }
+    ensures { result_err result ≡ form_refused (first_ill_formed program.now) None }
 {
-    if let Some(limit) = limit_broken(program, primary, bound) {
-        return Some(RunRefusal::Outside(limit));
-    }
-    if let Some(place) = first_ill_formed(program) {
-        return Some(RunRefusal::IllFormed {
+    match first_ill_formed(program) {
+        Some(place) => Err(RunRefusal::IllFormed {
             place: place as u32,
-        });
+        }),
+        None => Ok(()),
     }
+}
+
+// Whether the tables have an entry for each step.
+fn check_room(bound: u32, rows: &[Row], cells: &[CellEntry]) -> Result<(), RunRefusal>
+    ensures { result_err result ≡ room_wanted bound (length rows.now) (length cells.now) }
+{
     if rows.len() < bound as usize || cells.len() < bound as usize {
-        return Some(RunRefusal::Room { needed: bound });
+        Err(RunRefusal::Room { needed: bound })
+    } else {
+        Ok(())
     }
-    None
+}
+
+// Whether a run is refused.
+pub fn check(job: Job, rows: &[Row], cells: &[CellEntry]) -> Result<(), RunRefusal>
+    ensures { result_err result ≡ refused job.entry.program.now job.entry.primary.now job.entry.bound (length rows.now) (length cells.now) }
+{
+    check_limits(job)?;
+    check_form(job.program)?;
+    check_room(job.bound, rows, cells)
 }

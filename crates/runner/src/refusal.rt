@@ -3,6 +3,8 @@ ghost use Rattle.std.specs.Prelude.{◌≡◌};
 ghost use Rattle.std.specs.List.{slice_get};
 ghost use Rattle.runner.specs.Refused.{refusal_number, refusal_values};
 
+use std::alloc::AllocError;
+
 // What has to be within its limits: the length of the program, the count of primary words, the bound.
 #[derive(Clone, Copy, PartialEq, Debug)]
 pub enum Limit {
@@ -21,16 +23,26 @@ pub enum RunRefusal {
     OutOfMemory,
 }
 
+impl From<AllocError> for RunRefusal {
+    ghost use Rattle.runner.specs.declared.refusal.RunRefusal.TheVariants.{OutOfMemory};
+
+    ghost from_gives = { λ _ e. e ≡ OutOfMemory };
+
+    fn from(_error: AllocError) -> RunRefusal {
+        RunRefusal::OutOfMemory
+    }
+}
+
 impl RunRefusal {
-    // The number of the refusal; 0 where it has none.
-    pub fn number(&self) -> u8
+    // The number of the refusal, if it has one.
+    pub fn number(&self) -> Option<u8>
         ensures { result ≡ refusal_number self.now }
     {
         match self {
-            RunRefusal::Outside(_) => 7,
-            RunRefusal::IllFormed { .. } => 6,
-            RunRefusal::Room { .. } => 8,
-            RunRefusal::OutOfMemory => 0,
+            RunRefusal::Outside(_) => Some(7),
+            RunRefusal::IllFormed { .. } => Some(6),
+            RunRefusal::Room { .. } => Some(8),
+            RunRefusal::OutOfMemory => None,
         }
     }
 

@@ -5,6 +5,7 @@
 use dossier::record::Row;
 use encoding::instruction::Instruction;
 use index::entry::CellEntry;
+use runner::job::Job;
 use runner::run::run;
 use std::alloc::{AllocError, Global};
 use std::io;
@@ -36,16 +37,16 @@ fn stores(heap: Global, stride: u32) -> Result<Vec<Instruction>, AllocError> {
 fn measure(rt: &HostRuntime, stride: u32) -> io::Result<u64> {
     let heap = rt.alloc();
     let program = stores(heap, stride)?;
-    let empty = CellEntry {
-        cell: 0,
-        first: 0,
-        last: 0,
-        value: 0,
+    let job = Job {
+        program: &program,
+        primary: &[],
+        auxiliary: &[],
+        bound: BOUND,
     };
-    let mut rows = vec![in heap; Row::Plain; 1_000_000]?;
-    let mut cells = vec![in heap; empty; 1_000_000]?;
+    let mut rows = vec![in heap; Row::Plain; BOUND as usize]?;
+    let mut cells = vec![in heap; CellEntry::default(); BOUND as usize]?;
     let start = Instant::now(rt)?;
-    let ended = run(heap, &program, &[], &[], BOUND, &mut rows, &mut cells);
+    let ended = run(heap, job, &mut rows, &mut cells);
     let took = u64::try_from(start.elapsed(rt)?.as_micros()).unwrap_or(u64::MAX);
     let Ok(run) = ended else {
         return Ok(0);

@@ -1,9 +1,11 @@
 // Runs and their logs.
 // Made by tools/runs.py.
-use crate::check::check_run;
+use crate::check::{Log, check_run};
 use dossier::record::{Row, Touch};
 use encoding::instruction::Instruction;
-use runner::ending::{Ending, Run};
+use index::entry::CellEntry;
+use runner::ending::{Answered, Run};
+use runner::job::Job;
 
 // An auxiliary word is stored, loaded again and compared.
 #[test]
@@ -65,24 +67,28 @@ fn sample(rt: HostRuntime) {
         Row::Plain,
         Row::Plain,
     ];
-    let cells: [(u32, u32, u32, u32); 1] = [(8, 2, 3, 7)];
-    let primary: [u32; 0] = [];
-    let auxiliary: [u32; 1] = [7];
+    let cells = [CellEntry {
+        cell: 8,
+        first: 2,
+        last: 3,
+        value: 7,
+    }];
+    let job = Job {
+        program: &program,
+        primary: &[],
+        auxiliary: &[7],
+        bound: 9,
+    };
     let run = Run {
-        ending: Ending::Answered { value: 0, step: 6 },
+        answer: Some(Answered { value: 0, step: 6 }),
         cells: 1,
     };
-    check_run(
-        &rt,
-        rt.alloc(),
-        &program,
-        &primary,
-        &auxiliary,
-        9,
+    let log = Log {
         run,
-        &rows,
-        &cells,
-    );
+        rows: &rows,
+        cells: &cells,
+    };
+    check_run(&rt, rt.alloc(), job, log);
 }
 
 // The same on another word.
@@ -145,24 +151,28 @@ fn sample_refuses(rt: HostRuntime) {
         Row::Plain,
         Row::Plain,
     ];
-    let cells: [(u32, u32, u32, u32); 1] = [(8, 2, 3, 8)];
-    let primary: [u32; 0] = [];
-    let auxiliary: [u32; 1] = [8];
+    let cells = [CellEntry {
+        cell: 8,
+        first: 2,
+        last: 3,
+        value: 8,
+    }];
+    let job = Job {
+        program: &program,
+        primary: &[],
+        auxiliary: &[8],
+        bound: 9,
+    };
     let run = Run {
-        ending: Ending::Answered { value: 1, step: 6 },
+        answer: Some(Answered { value: 1, step: 6 }),
         cells: 1,
     };
-    check_run(
-        &rt,
-        rt.alloc(),
-        &program,
-        &primary,
-        &auxiliary,
-        9,
+    let log = Log {
         run,
-        &rows,
-        &cells,
-    );
+        rows: &rows,
+        cells: &cells,
+    };
+    check_run(&rt, rt.alloc(), job, log);
 }
 
 // No step within the bound answers; the last one touches a cell.
@@ -221,24 +231,28 @@ fn out_of_steps(rt: HostRuntime) {
             next: 0,
         }),
     ];
-    let cells: [(u32, u32, u32, u32); 1] = [(4, 1, 10, 3)];
-    let primary: [u32; 0] = [];
-    let auxiliary: [u32; 0] = [];
+    let cells = [CellEntry {
+        cell: 4,
+        first: 1,
+        last: 10,
+        value: 3,
+    }];
+    let job = Job {
+        program: &program,
+        primary: &[],
+        auxiliary: &[],
+        bound: 10,
+    };
     let run = Run {
-        ending: Ending::OutOfSteps,
+        answer: None,
         cells: 1,
     };
-    check_run(
-        &rt,
-        rt.alloc(),
-        &program,
-        &primary,
-        &auxiliary,
-        10,
+    let log = Log {
         run,
-        &rows,
-        &cells,
-    );
+        rows: &rows,
+        cells: &cells,
+    };
+    check_run(&rt, rt.alloc(), job, log);
 }
 
 // The answer comes in the last step of the bound.
@@ -257,24 +271,23 @@ fn just_in_time(rt: HostRuntime) {
         },
     ];
     let rows = [Row::Plain, Row::Plain];
-    let cells: [(u32, u32, u32, u32); 0] = [];
-    let primary: [u32; 0] = [];
-    let auxiliary: [u32; 0] = [];
+    let cells = [];
+    let job = Job {
+        program: &program,
+        primary: &[],
+        auxiliary: &[],
+        bound: 2,
+    };
     let run = Run {
-        ending: Ending::Answered { value: 5, step: 2 },
+        answer: Some(Answered { value: 5, step: 2 }),
         cells: 0,
     };
-    check_run(
-        &rt,
-        rt.alloc(),
-        &program,
-        &primary,
-        &auxiliary,
-        2,
+    let log = Log {
         run,
-        &rows,
-        &cells,
-    );
+        rows: &rows,
+        cells: &cells,
+    };
+    check_run(&rt, rt.alloc(), job, log);
 }
 
 // The same with one step less.
@@ -293,24 +306,23 @@ fn one_step_short(rt: HostRuntime) {
         },
     ];
     let rows = [Row::Plain];
-    let cells: [(u32, u32, u32, u32); 0] = [];
-    let primary: [u32; 0] = [];
-    let auxiliary: [u32; 0] = [];
+    let cells = [];
+    let job = Job {
+        program: &program,
+        primary: &[],
+        auxiliary: &[],
+        bound: 1,
+    };
     let run = Run {
-        ending: Ending::OutOfSteps,
+        answer: None,
         cells: 0,
     };
-    check_run(
-        &rt,
-        rt.alloc(),
-        &program,
-        &primary,
-        &auxiliary,
-        1,
+    let log = Log {
         run,
-        &rows,
-        &cells,
-    );
+        rows: &rows,
+        cells: &cells,
+    };
+    check_run(&rt, rt.alloc(), job, log);
 }
 
 // Past the program stands `answer 1`.
@@ -329,24 +341,23 @@ fn leaves_the_program(rt: HostRuntime) {
         },
     ];
     let rows = [Row::Plain, Row::Plain, Row::Plain];
-    let cells: [(u32, u32, u32, u32); 0] = [];
-    let primary: [u32; 0] = [];
-    let auxiliary: [u32; 0] = [];
+    let cells = [];
+    let job = Job {
+        program: &program,
+        primary: &[],
+        auxiliary: &[],
+        bound: 8,
+    };
     let run = Run {
-        ending: Ending::Answered { value: 1, step: 3 },
+        answer: Some(Answered { value: 1, step: 3 }),
         cells: 0,
     };
-    check_run(
-        &rt,
-        rt.alloc(),
-        &program,
-        &primary,
-        &auxiliary,
-        8,
+    let log = Log {
         run,
-        &rows,
-        &cells,
-    );
+        rows: &rows,
+        cells: &cells,
+    };
+    check_run(&rt, rt.alloc(), job, log);
 }
 
 // Bytes and words overlap in two cells, and an address counts down to its cell.
@@ -458,27 +469,39 @@ fn bytes_and_words(rt: HostRuntime) {
         }),
         Row::Plain,
     ];
-    let cells: [(u32, u32, u32, u32); 2] = [(8, 2, 6, 287484740), (12, 7, 9, 287484740)];
-    let primary: [u32; 0] = [];
-    let auxiliary: [u32; 0] = [];
+    let cells = [
+        CellEntry {
+            cell: 8,
+            first: 2,
+            last: 6,
+            value: 287484740,
+        },
+        CellEntry {
+            cell: 12,
+            first: 7,
+            last: 9,
+            value: 287484740,
+        },
+    ];
+    let job = Job {
+        program: &program,
+        primary: &[],
+        auxiliary: &[],
+        bound: 24,
+    };
     let run = Run {
-        ending: Ending::Answered {
+        answer: Some(Answered {
             value: 171,
             step: 10,
-        },
+        }),
         cells: 2,
     };
-    check_run(
-        &rt,
-        rt.alloc(),
-        &program,
-        &primary,
-        &auxiliary,
-        24,
+    let log = Log {
         run,
-        &rows,
-        &cells,
-    );
+        rows: &rows,
+        cells: &cells,
+    };
+    check_run(&rt, rt.alloc(), job, log);
 }
 
 // Cells are touched from the highest down, and again from the lowest up.
@@ -590,29 +613,48 @@ fn cells_fall(rt: HostRuntime) {
         }),
         Row::Plain,
     ];
-    let cells: [(u32, u32, u32, u32); 4] = [
-        (0, 4, 5, 0),
-        (40, 3, 6, 0),
-        (400, 2, 7, 0),
-        (4294967292, 1, 8, 0),
+    let cells = [
+        CellEntry {
+            cell: 0,
+            first: 4,
+            last: 5,
+            value: 0,
+        },
+        CellEntry {
+            cell: 40,
+            first: 3,
+            last: 6,
+            value: 0,
+        },
+        CellEntry {
+            cell: 400,
+            first: 2,
+            last: 7,
+            value: 0,
+        },
+        CellEntry {
+            cell: 4294967292,
+            first: 1,
+            last: 8,
+            value: 0,
+        },
     ];
-    let primary: [u32; 0] = [];
-    let auxiliary: [u32; 0] = [];
+    let job = Job {
+        program: &program,
+        primary: &[],
+        auxiliary: &[],
+        bound: 20,
+    };
     let run = Run {
-        ending: Ending::Answered { value: 0, step: 9 },
+        answer: Some(Answered { value: 0, step: 9 }),
         cells: 4,
     };
-    check_run(
-        &rt,
-        rt.alloc(),
-        &program,
-        &primary,
-        &auxiliary,
-        20,
+    let log = Log {
         run,
-        &rows,
-        &cells,
-    );
+        rows: &rows,
+        cells: &cells,
+    };
+    check_run(&rt, rt.alloc(), job, log);
 }
 
 // Both tapes are read past their ends, and a third tape is empty.
@@ -676,22 +718,26 @@ fn tapes(rt: HostRuntime) {
         }),
         Row::Plain,
     ];
-    let cells: [(u32, u32, u32, u32); 1] = [(36, 7, 7, 5)];
-    let primary: [u32; 1] = [36];
-    let auxiliary: [u32; 2] = [5, 6];
+    let cells = [CellEntry {
+        cell: 36,
+        first: 7,
+        last: 7,
+        value: 5,
+    }];
+    let job = Job {
+        program: &program,
+        primary: &[36],
+        auxiliary: &[5, 6],
+        bound: 24,
+    };
     let run = Run {
-        ending: Ending::Answered { value: 5, step: 8 },
+        answer: Some(Answered { value: 5, step: 8 }),
         cells: 1,
     };
-    check_run(
-        &rt,
-        rt.alloc(),
-        &program,
-        &primary,
-        &auxiliary,
-        24,
+    let log = Log {
         run,
-        &rows,
-        &cells,
-    );
+        rows: &rows,
+        cells: &cells,
+    };
+    check_run(&rt, rt.alloc(), job, log);
 }

@@ -2,10 +2,10 @@
 use checking::calls::check_all;
 use codec::holder::ByteDossier;
 use dossier::record::{Row, Touch};
-use encoding::instruction::Instruction;
 use index::entry::CellEntry;
 use layers::pair::Pair;
-use runner::ending::Ending;
+use runner::ending::Answered;
+pub use runner::job::Job;
 use runner::run::run;
 use std::fmt;
 use table::holder::TableDossier;
@@ -13,15 +13,6 @@ use writer::write::write;
 
 // Room for the bytes of a dossier.
 const BYTES: usize = 65_536;
-
-// A program with its tapes and the bound on its steps.
-#[derive(Clone, Copy)]
-pub struct Job<'a> {
-    pub program: &'a [Instruction],
-    pub primary: &'a [u32],
-    pub auxiliary: &'a [u32],
-    pub bound: u32,
-}
 
 // A row in columns: kind, cell, before, after, origin, next. An advice word takes the cell's column.
 #[derive(Clone, Copy)]
@@ -109,29 +100,21 @@ pub(crate) fn log_run(rt: &HostRuntime, job: Job) -> anyhow::Result<()> {
     };
     let mut rows = vec![in heap; Row::Plain; job.bound as usize]?;
     let mut cells = vec![in heap; empty; job.bound as usize]?;
-    let ended = run(
-        heap,
-        job.program,
-        job.primary,
-        job.auxiliary,
-        job.bound,
-        &mut rows,
-        &mut cells,
-    );
+    let ended = run(heap, job, &mut rows, &mut cells);
     let ended = match ended {
         Ok(ended) => ended,
         Err(refusal) => {
-            println!(rt; "refused {}", refusal.number())?;
+            println!(rt; "refused {}", refusal.number().unwrap_or(0))?;
             return Ok(());
         }
     };
     let count = ended.cells;
-    let steps = match ended.ending {
-        Ending::Answered { value, step } => {
+    let steps = match ended.answer {
+        Some(Answered { value, step }) => {
             println!(rt; "answered {value} in step {step} cells {count}")?;
             step
         }
-        Ending::OutOfSteps => {
+        None => {
             println!(rt; "out of steps cells {count}")?;
             job.bound
         }

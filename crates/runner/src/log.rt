@@ -1,0 +1,150 @@
+// The steps of a run, logged one by one.
+ghost use Rattle.std.specs.Prelude.{◌≡◌, ◌<◌, ◌≤◌, length, [], None};
+ghost use Rattle.machine.specs.State.{start};
+ghost use Rattle.machine.specs.declared.step.Demand.TheVariants.{Cell, Advice};
+ghost use Rattle.machine.specs.Effects.{asked};
+ghost use Rattle.tinyram.specs.Program.{operation, word_at};
+ghost use Rattle.runner.specs.Filling.{Logged};
+ghost use Rattle.runner.specs.Going.{made, Going, Onward, Finished};
+
+use crate::ending::Answered;
+use crate::job::Job;
+use crate::touch::{first_record, later_record, linked, opened};
+use dossier::record::Row;
+use encoding::operation::Operation;
+use index::map::CellMap;
+use machine::cpu::Cpu;
+use machine::step::{Demand, after, asks, execute, fetch};
+
+// A run that is being logged: what it was given, the tables that it fills, how many steps were made, the state after
+// them, and the auxiliary words that they left. `Going` says what holds between two steps. It is a clause and no ghost
+// field, since the check would ask for it after each call that writes to a table, where it does not hold yet.
+#[derive(Drop)]
+struct Log<'a, 'r, 'c> {
+    job: Job<'a>,
+    rows: &'r mut [Row],
+    cells: &'c mut CellMap,
+    steps: usize,
+    cpu: Cpu,
+    unread: &'a [u32],
+}
+
+impl<'a, 'r, 'c> Log<'a, 'r, 'c> {
+    // A log of no step.
+    fn new(job: Job<'a>, rows: &'r mut [Row], cells: &'c mut CellMap) -> Log<'a, 'r, 'c>
+        ensures { result ≡ record { job = job.entry; rows = rows.entry; cells = cells.entry; steps = 0; cpu = start; unread = job.entry.auxiliary } }
+    {
+        Log {
+            job,
+            rows,
+            cells,
+            steps: 0,
+            cpu: Cpu::start(),
+            unread: job.auxiliary,
+        }
+    }
+
+    // Makes a step that gets this word or none, and has this row.
+    fn make(&mut self, by: Operation, got: Option<u32>, row: Row)
+        requires { self.old.steps < length self.old.rows.now }
+        ensures { self.new ≡ made self.old by got row }
+    {
+        self.rows[self.steps] = row;
+        self.cpu = execute(self.cpu, by, got);
+        self.steps += 1;
+    }
+
+    // A step that reads the auxiliary tape.
+    fn hear(&mut self, by: Operation)
+        requires going { Going self.old }
+        requires more { self.old.steps < self.old.job.bound }
+        requires by { by ≡ operation self.old.job.program.now self.old.cpu }
+        requires asks { asked by self.old.cpu ≡ Advice }
+        ensures { Onward self.old self.new None }
+    {
+        if let Some((&word, unread)) = self.unread.split_first() {
+            self.unread = unread;
+            self.make(by, Some(word), Row::Advice(word));
+        } else {
+            self.make(by, None, Row::AdviceEnd);
+        }
+    }
+
+    // A step that loads from a cell or stores into it.
+    fn touch(&mut self, by: Operation, cell: u32)
+        requires going { Going self.old }
+        requires more { self.old.steps < self.old.job.bound }
+        requires by { by ≡ operation self.old.job.program.now self.old.cpu }
+        requires asks { asked by self.old.cpu ≡ Cell cell }
+        ensures { Onward self.old self.new None }
+    {
+        let step = self.steps as u32 + 1;
+        let known = self.cells.entries().len();
+        let Some(number) = self.cells.open(opened(cell, step)) else {
+            unreachable!()
+        };
+        let entry = self.cells.entries()[number];
+        let value = after(by, &self.cpu, entry.value);
+        self.cells.renew(number, step, value);
+        if number == known {
+            let record = first_record(cell, number as u32, value);
+            self.make(by, Some(entry.value), Row::FromLine(record));
+        } else {
+            let record = later_record(entry, value);
+            self.make(by, Some(entry.value), Row::FromStep(record));
+            let former = entry.last as usize - 1;
+            self.rows[former] = linked(self.rows[former], step);
+        }
+    }
+
+    // One step, and what it answers.
+    fn step(&mut self) -> Option<u32>
+        requires going { Going self.old }
+        requires more { self.old.steps < self.old.job.bound }
+        ensures { Onward self.old self.new result }
+    {
+        let by = fetch(self.job.program, self.cpu.pc);
+        match asks(by, &self.cpu) {
+            Demand::Nothing => self.make(by, None, Row::Plain),
+            Demand::Cell(cell) => self.touch(by, cell),
+            Demand::Primary => {
+                let word = self.job.primary.get(self.cpu.place as usize).copied();
+                self.make(by, word, Row::Plain);
+            }
+            Demand::Advice => self.hear(by),
+            Demand::Halt(value) => {
+                self.make(by, None, Row::Plain);
+                return Some(value);
+            }
+        }
+        None
+    }
+
+    // Steps until one answers or the bound is reached.
+    fn finish(&mut self) -> Option<Answered>
+        requires going { Going self.old }
+        requires start { self.old.steps ≡ 0 }
+        ensures { Finished self.old self.new result }
+    {
+        for _ in 0..self.job.bound {
+            if let Some(value) = self.step() {
+                return Some(Answered {
+                    value,
+                    step: self.steps as u32,
+                });
+            }
+        }
+        None
+    }
+}
+
+// Logs the steps of a run. The cells stand in the order of their first touches.
+pub fn log_steps(job: Job, rows: &mut [Row], cells: &mut CellMap) -> Option<Answered>
+    requires empty { cells.old.entries ≡ [] }
+    requires limit { job.bound ≤ cells.old.limit }
+    requires rows { job.bound ≤ length rows.old }
+    requires few { job.bound ≤ 1000000 }
+    ensures { Logged job.entry result cells.new rows.old rows.new }
+{
+    Log::new(job, rows, cells).finish()
+}
