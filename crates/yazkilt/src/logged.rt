@@ -15,36 +15,28 @@ use writer::write::write;
 const BYTES: usize = 65_536;
 
 // A row in columns: kind, cell, before, after, origin, next. An advice word takes the cell's column.
+// The columns are this program's own text, so a type of its own carries them: `Row` has its text already.
 #[derive(Clone, Copy)]
 struct Columns(Row);
 
-fn kind_of(row: Row) -> u8 {
-    match row {
-        Row::Plain => 0,
-        Row::FromLine(_) => 1,
-        Row::FromStep(_) => 2,
-        Row::Advice(_) => 3,
-        Row::AdviceEnd => 4,
-    }
-}
-
 impl fmt::Display for Columns {
     fn fmt<W: fmt::Write>(&self, f: &mut fmt::Formatter<W>) -> fmt::Result {
-        let kind = kind_of(self.0);
-        match self.0 {
-            Row::FromLine(touch) | Row::FromStep(touch) => {
-                let Touch {
-                    cell,
-                    before,
-                    after,
-                    origin,
-                    next,
-                } = touch;
-                write!(f, "row {kind} {cell} {before} {after} {origin} {next}")
-            }
-            Row::Advice(word) => write!(f, "row {kind} {word} 0 0 0 0"),
-            _ => write!(f, "row {kind} 0 0 0 0 0"),
-        }
+        let kind = u8::from(self.0.kind());
+        let Touch {
+            cell,
+            before,
+            after,
+            origin,
+            next,
+        } = match self.0 {
+            Row::FromLine(touch) | Row::FromStep(touch) => touch,
+            Row::Advice(cell) => Touch {
+                cell,
+                ..Touch::default()
+            },
+            Row::Plain | Row::AdviceEnd => Touch::default(),
+        };
+        write!(f, "row {kind} {cell} {before} {after} {origin} {next}")
     }
 }
 
@@ -92,16 +84,9 @@ fn keep<'a>(
 // Runs the program into tables and prints the answer, the rows and the cells.
 pub(crate) fn log_run(rt: &HostRuntime, job: Job) -> anyhow::Result<()> {
     let heap = rt.alloc();
-    let empty = CellEntry {
-        cell: 0,
-        first: 0,
-        last: 0,
-        value: 0,
-    };
     let mut rows = vec![in heap; Row::Plain; job.bound as usize]?;
-    let mut cells = vec![in heap; empty; job.bound as usize]?;
-    let ended = run(heap, job, &mut rows, &mut cells);
-    let ended = match ended {
+    let mut cells = vec![in heap; CellEntry::default(); job.bound as usize]?;
+    let ended = match run(heap, job, &mut rows, &mut cells) {
         Ok(ended) => ended,
         Err(refusal) => {
             println!(rt; "refused {}", refusal.number().unwrap_or(0))?;

@@ -31,9 +31,8 @@ fn line_at(listing: &str, pc: u32) -> &str {
 // One line for one step: where it was, what it said and what it changed.
 fn show(rt: &HostRuntime, happened: Happened, world: &World) -> anyhow::Result<()> {
     if let Some(i) = happened.destination()
-        && i < 16
+        && let Some(word) = world.cpu.registers.get(usize::from(i))
     {
-        let word = world.cpu.registers[usize::from(i)];
         print!(rt; " | r{i} = {word}")?;
     }
     if let Some(touch) = happened.touch {
@@ -68,14 +67,18 @@ fn trace(rt: &HostRuntime, program: &[Instruction]) -> anyhow::Result<()> {
     Ok(())
 }
 
-// Assembles a text into the table, and gives the length of the program; a refusal is told.
-fn assembled(rt: &HostRuntime, text: &str, table: &mut [Instruction]) -> anyhow::Result<usize> {
+// The program that a text assembles to in the table; a refusal is told, and leaves no program.
+fn assembled<'a>(
+    rt: &HostRuntime,
+    text: &str,
+    table: &'a mut [Instruction],
+) -> anyhow::Result<&'a [Instruction]> {
     match assemble(text, table) {
-        Ok(length) => Ok(length),
+        Ok(length) => Ok(table.get(0..length).unwrap_or(&[])),
         Err(error) => {
             let refusal = error.refusal();
             println!(rt; "refused {} {}", refusal.number, refusal.value)?;
-            Ok(0)
+            Ok(&[])
         }
     }
 }
@@ -83,11 +86,11 @@ fn assembled(rt: &HostRuntime, text: &str, table: &mut [Instruction]) -> anyhow:
 // The fitting program step by step.
 fn fit(rt: &HostRuntime) -> anyhow::Result<()> {
     let mut table = [EMPTY; ROOM];
-    let length = assembled(rt, TEXT, &mut table)?;
+    let program = assembled(rt, TEXT, &mut table)?;
+    let length = program.len();
     let targets = PRIMARY.len();
     let measured = AUXILIARY.len();
     println!(rt; "program {length} primary {targets} auxiliary {measured}")?;
-    let program = table.get(0..length).unwrap_or(&[]);
     trace(rt, program)?;
     println!(rt; "its log:")?;
     let job = Job {
@@ -102,10 +105,10 @@ fn fit(rt: &HostRuntime) -> anyhow::Result<()> {
 // The sample and its log.
 fn sample(rt: &HostRuntime) -> anyhow::Result<()> {
     let mut table = [EMPTY; ROOM];
-    let length = assembled(rt, SAMPLE, &mut table)?;
+    let program = assembled(rt, SAMPLE, &mut table)?;
     println!(rt; "the sample:")?;
     let job = Job {
-        program: table.get(0..length).unwrap_or(&[]),
+        program,
         primary: &[],
         auxiliary: &[7],
         bound: 9,
