@@ -1,5 +1,6 @@
 -- The lines of a text, one by one. Assumes nothing.
 use Rattle.std.proofs.Common.{◌≡◌, ℕ, ◌<◌, Bool, true, false, eqb, List, [], ◌∷◌, length, get_or, sym, refl, ap, subst, arith, true-eqb}
+use Rattle.std.proofs.Math.Numerals.{one-add}
 use Rattle.lexer.specs.Lines.{lines, first_line, other_lines}
 
 abbrev Next : List ℕ → Type 0
@@ -7,7 +8,7 @@ Next bs = lines bs ≡ first_line bs ∷ lines (other_lines bs)
 
 next_more : (b : ℕ) (bs : List ℕ) → eqb b 10 ≡ false → eqb b 13 ≡ false → (0 < length bs → Next bs) → Next (b ∷ bs)
 next_more b [] p q ih = rw (p, q) refl
-next_more b (c ∷ bs) p q ih = rw (p, q, ih (omega arith)) refl
+next_more b (c ∷ bs) p q ih = rw (p, q, ih (omega arith)) (simp one-add)
 
 next_lf : (bs : List ℕ) → Next (10 ∷ bs)
 next_lf bs = refl
@@ -30,7 +31,7 @@ abbrev Shrinks : List ℕ → Type 0
 Shrinks bs = length (other_lines bs) < length bs
 
 same_after : (b : ℕ) (bs : List ℕ) → eqb b 10 ≡ false → eqb b 13 ≡ false → other_lines (b ∷ bs) ≡ other_lines bs
-same_after b bs p q = simp (p, q)
+same_after b bs p q = simp (p, q, one-add)
 
 shrinks_more : (b : ℕ) (bs : List ℕ) → eqb b 10 ≡ false → eqb b 13 ≡ false → (0 < length bs → Shrinks bs) → Shrinks (b ∷ bs)
 shrinks_more b [] p q ih = let e = ap length (same_after b [] p q) in omega arith
