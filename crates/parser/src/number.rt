@@ -25,6 +25,7 @@ fn is_numeral(text: &str) -> bool
 }
 
 // The value modulo 2^32 of 1 to 10 digits.
+#[tactic(auto, using(crate::proofs::Digits::parsed))]
 fn digits_of(text: &str) -> Option<u32>
     ensures { result ≡ digits_of text.now }
 {
