@@ -1,7 +1,7 @@
 -- The lines of a text, one by one. Assumes nothing.
-use Rattle.std.proofs.Common.{◌≡◌, ℕ, ◌<◌, Bool, true, false, eqb, List, [], ◌∷◌, length, get_or, sym, refl, ap, subst, arith, true-eqb}
+use Rattle.std.proofs.Common.{◌≡◌, ℕ, suc, ◌+◌, ◌<◌, ◌≤◌, Bool, true, false, eqb, List, [], ◌∷◌, length, get_or, sym, refl, ap, subst, arith, true-eqb}
 use Rattle.std.proofs.Math.Numerals.{one-add}
-use Rattle.lexer.specs.Lines.{lines, first_line, other_lines}
+use Rattle.lexer.specs.Lines.{onto, lines, first_line, other_lines}
 
 abbrev Next : List ℕ → Type 0
 Next bs = lines bs ≡ first_line bs ∷ lines (other_lines bs)
@@ -51,3 +51,18 @@ shrinks_go b bs false false p q ih = shrinks_more b bs p q ih
 pub shrinks : (bs : List ℕ) → 0 < length bs → length (other_lines bs) < length bs
 shrinks [] h = absurd (omega arith)
 shrinks (b ∷ bs) h = shrinks_go b bs _ _ refl refl (shrinks bs)
+
+onto_length : (b : ℕ) (ls : List (List ℕ)) → length (onto b ls) ≤ 1 + length ls
+onto_length b [] = omega arith
+onto_length b (l ∷ ls) = omega arith
+
+length_go : (bs : List ℕ) (b : ℕ) (t u v : Bool) → eqb b 10 ≡ t → eqb b 13 ≡ u → eqb (get_or bs 0 0) 10 ≡ v → length (lines bs) ≤ length bs → length (lines (b ∷ bs)) ≤ suc (length bs)
+length_go bs b true u v p q r h = rw p (omega (arith, h))
+length_go bs b false true true p q r h = rw (p, q, r) (omega (arith, h))
+length_go bs b false true false p q r h = rw (p, q, r) (omega (arith, h))
+length_go bs b false false v p q r h = rw (p, q) (omega (arith, h, onto_length b (lines bs)))
+
+-- a text has at most a line for each byte
+pub lines_length : (bs : List ℕ) → length (lines bs) ≤ length bs
+lines_length [] = omega arith
+lines_length (b ∷ bs) = length_go bs b _ _ _ refl refl refl (lines_length bs)
