@@ -9,7 +9,7 @@ use encoding::instruction::Instruction;
 use lexer::lines::next_line;
 
 // The first line of every program.
-const HEADER: &str = "; TinyRAM V=2.000 M=hv W=32 K=16";
+pub const HEADER: &str = "; TinyRAM V=2.000 M=hv W=32 K=16";
 
 // Takes the header and the labels of a text, and answers how many entries the program needs.
 fn prepare<'a>(labels: &mut Labels<'a>, text: &'a str) -> Result<usize, AssemblyError>

@@ -1,5 +1,6 @@
 -- A printed program assembles to itself. Assumes nothing.
-use Rattle.std.proofs.Common.{◌≡◌, ℕ, zero, suc, ◌+◌, ◌^◌, ◌<◌, ◌≤◌, true, false, cond, eqb, ltb, List, [], ◌∷◌, ◌++◌, map, length, get_or, drop, is_some, Some, None, Ok, Err, Option, Result, unwrap_or, sym, refl, ap, ◌∙◌, append_assoc, add-one, arith}
+use Rattle.std.proofs.Common.{◌≡◌, ℕ, ◌+◌, ◌^◌, ◌<◌, ◌≤◌, true, false, cond, eqb, ltb, List, [], ◌∷◌, ◌++◌, map, length, get_or, take, is_some, Some, None, Ok, Err, Option, Result, unwrap_or, sym, refl, ap, ◌∙◌, append_assoc, arith}
+use Rattle.std.proofs.lemmas.List.{take_more, flat_map_more}
 use Rattle.std.proofs.lemmas.Bool.Decides.{nat_tests}
 use Rattle.encoding.specs.declared.instruction.Instruction as encoding
 use Rattle.encoding.specs.Encoding.{decoded, encoded, meant}
@@ -10,7 +11,6 @@ use Rattle.lexer.specs.declared.class.Class.TheVariants.{Line}
 use Rattle.lexer.specs.Classes.{belongs}
 use Rattle.lexer.specs.Lines.{lines, onto, past_end, other_lines}
 use Rattle.assembler.specs.declared.error.AssemblyError.{AssemblyError}
-use Rattle.assembler.specs.declared.resolve.Given.TheVariants.{Instruction}
 use Rattle.assembler.specs.Labels.{Known}
 use Rattle.assembler.specs.Scan.{onwards, stepped_by, stepped, scanned}
 use Rattle.assembler.specs.Resolve.{given, read_gives, line_gives}
@@ -18,7 +18,7 @@ use Rattle.assembler.specs.Program.{listed, program, entries, checked}
 use Rattle.assembler.specs.Text.{header, body}
 use Rattle.assembler.specs.declared.error.AssemblyError.TheVariants.{Header}
 use Rattle.std.specs.Str.{bytes_eq}
-use Rattle.printer.specs.Listing.{operation_text, line_text, listing}
+use Rattle.printer.specs.Listing.{operation_text, line_text, listing, printed}
 use Rattle.printer.specs.Back.{Printable, PrintedAssembles}
 use Rattle.printer.proofs.Fronts.{every, and_left, and_right, front_append, past_append}
 use Rattle.printer.proofs.Lines.{line_of_lem, encoded_of, plain_of}
@@ -42,7 +42,7 @@ module _ (n : encoding.Instruction) (f : well_formed n ≡ true) (s : n.second <
   line_steps : (k : Known) (at : ℕ) → ltb k.count 4096 ≡ true → stepped k at (line_of n) ≡ Ok (record { labels = k.labels; count = k.count + 1 })
   line_steps k at room = ap (stepped_by k at) (line_of_lem (meant n) n says s) ∙ (rw room refl)
 
-  line_gives_lem : line_gives [] (line_of n) ≡ Instruction n
+  line_gives_lem : line_gives [] (line_of n) ≡ Ok (Some n)
   line_gives_lem = ap (read_gives []) (line_of_lem (meant n) n says s) ∙ ap given (encoded_of (meant n) ∙ says)
 
 -- THE LINES
@@ -108,24 +108,6 @@ printed_assembles p l h =
 
 -- THE LOOP OF THE PRINTER
 
-listing_step : (p : List encoding.Instruction) (i : ℕ) (d : encoding.Instruction) → i < length p → listing (drop i p) ≡ line_text (get_or p i d) ++ listing (drop (suc i) p)
-listing_step [] i d h = absurd (omega arith)
-listing_step (n ∷ p) zero d h = refl
-listing_step (n ∷ p) (suc i) d h = listing_step p i d (omega arith)
-
-pub listing_turn : (p : List encoding.Instruction) (i : ℕ) (d : encoding.Instruction) (s t whole : List ℕ) → i < length p → s ++ listing (drop i p) ≡ whole → t ≡ s ++ line_text (get_or p i d) → t ++ listing (drop (i + 1) p) ≡ whole
-listing_turn p i d s t whole h inv e =
-    rw (e, add-one) (append_assoc s (line_text (get_or p i d)) (listing (drop (suc i) p)) ∙ (ap (λ q. s ++ q) (sym (listing_step p i d h)) ∙ inv))
-
-drop_past : (p : List encoding.Instruction) (i : ℕ) → length p ≤ i → drop i p ≡ []
-drop_past [] zero h = refl
-drop_past [] (suc i) h = refl
-drop_past (n ∷ p) zero h = absurd (omega arith)
-drop_past (n ∷ p) (suc i) h = drop_past p i (omega arith)
-
-nil_right : (s : List ℕ) → s ++ [] ≡ s
-nil_right [] = refl
-nil_right (b ∷ s) = ap (λ t. b ∷ t) (nil_right s)
-
-pub listing_end : (p : List encoding.Instruction) (i : ℕ) (s whole : List ℕ) → length p ≤ i → s ++ listing (drop i p) ≡ whole → s ≡ whole
-listing_end p i s whole h inv = sym (ap (λ q. s ++ listing q) (drop_past p i h) ∙ nil_right s) ∙ inv
+pub printed_more : (p : List encoding.Instruction) (i : ℕ) (d : encoding.Instruction) → i < length p → printed (take i p) ++ line_text (get_or p i d) ≡ printed (take (i + 1) p)
+printed_more p i d h =
+    flat_map_more line_text (header ++ (10 ∷ [])) (take i p) (get_or p i d) ∙ ap printed (sym (take_more p i d h))

@@ -6,9 +6,8 @@ use Rattle.std.proofs.lemmas.Fmt.{decimal_digit, decimal_step, decimal_nonempty,
 use Rattle.std.proofs.lemmas.Bool.{cases_lt}
 use Rattle.std.proofs.lemmas.Bool.Decides.{nat_tests}
 use Rattle.lexer.specs.declared.class.Class.TheVariants.{Blank, Word, Digit, Line}
-use Rattle.lexer.specs.declared.token.Kind.TheVariants.{Register, Integer}
 use Rattle.lexer.specs.Classes.{between, belongs, past}
-use Rattle.lexer.specs.Tokens.{kind_of, after_mark}
+use Rattle.lexer.specs.Tokens.{Register, Integer, kind_of, after_mark}
 use Rattle.parser.specs.Numbers.{register_of, written, numeral, signed, integer_of}
 use Rattle.parser.proofs.Digits.{own}
 use Rattle.printer.proofs.Fronts.{every, stopped, and_left, and_right, past_append, nil_right}

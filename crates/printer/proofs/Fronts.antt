@@ -2,8 +2,10 @@
 use Rattle.std.proofs.Common.{◌≡◌, ℕ, suc, Bool, true, false, not, ◌&&◌, eqb, List, [], ◌∷◌, ◌++◌, length, get_or, take, drop, sym, refl, ap, arith}
 use Rattle.lexer.specs.declared.class.Class.{Class}
 use Rattle.lexer.specs.declared.class.Class.TheVariants.{Blank}
-use Rattle.lexer.specs.Classes.{belongs, run, front, past}
+use Rattle.lexer.specs.Classes.{belongs, front, past}
 use Rattle.lexer.specs.Tokens.{start_of, kind_of}
+use Rattle.std.specs.List.{prefix_len}
+use Rattle.std.proofs.Math.Numerals.{one-add}
 use Rattle.std.proofs.lemmas.Bool.Decides.{nat_tests}
 
 abbrev pub every : (ℕ → Bool) → List ℕ → Bool
@@ -26,10 +28,10 @@ not_true : (a : Bool) → not a ≡ true → a ≡ false
 not_true true h = sym h
 not_true false h = refl
 
-run_append : (p : ℕ → Bool) (w rest : List ℕ) → every p w ≡ true → stopped p rest ≡ true → run p (w ++ rest) ≡ length w
-run_append p [] [] h s = refl
-run_append p [] (b ∷ rest) h s = rw (not_true (p b) s) refl
-run_append p (b ∷ w) rest h s = rw (and_left (p b) (every p w) h) (ap suc (run_append p w rest (and_right (p b) (every p w) h) s))
+len_append : (p : ℕ → Bool) (w rest : List ℕ) → every p w ≡ true → stopped p rest ≡ true → prefix_len p (w ++ rest) ≡ length w
+len_append p [] [] h s = refl
+len_append p [] (b ∷ rest) h s = rw (not_true (p b) s) refl
+len_append p (b ∷ w) rest h s = rw (and_left (p b) (every p w) h, one-add) (ap suc (len_append p w rest (and_right (p b) (every p w) h) s))
 
 take_append : (w rest : List ℕ) → take (length w) (w ++ rest) ≡ w
 take_append [] rest = refl
@@ -40,10 +42,10 @@ drop_append [] rest = refl
 drop_append (b ∷ w) rest = drop_append w rest
 
 pub front_append : (class : Class) (w rest : List ℕ) → every (belongs class) w ≡ true → stopped (belongs class) rest ≡ true → front class (w ++ rest) ≡ w
-front_append class w rest h s = rw (run_append (belongs class) w rest h s) (take_append w rest)
+front_append class w rest h s = rw (len_append (belongs class) w rest h s) (take_append w rest)
 
 pub past_append : (class : Class) (w rest : List ℕ) → every (belongs class) w ≡ true → stopped (belongs class) rest ≡ true → past class (w ++ rest) ≡ rest
-past_append class w rest h s = rw (run_append (belongs class) w rest h s) (drop_append w rest)
+past_append class w rest h s = rw (len_append (belongs class) w rest h s) (drop_append w rest)
 
 pub every_append : (p : ℕ → Bool) (v w : List ℕ) → every p v ≡ true → every p w ≡ true → every p (v ++ w) ≡ true
 every_append p [] w h k = k

@@ -14,8 +14,8 @@ use Rattle.encoding.proofs.Options.{if_some}
 use Rattle.lexer.specs.declared.class.Class.TheVariants.{Line}
 use Rattle.lexer.specs.Classes.{belongs}
 use Rattle.mnemonics.specs.Names.{name_of}
-use Rattle.parser.specs.Operands.{and_then, ended}
-use Rattle.parser.specs.Statements.{StatementView, stated, three_in, compare_in, two_in, store_in, one_in, operands_in, line, line_in}
+use Rattle.parser.specs.Operands.{ArgumentView, and_then, ended}
+use Rattle.parser.specs.Statements.{StatementView, stated, pair_in, reversed_in, three_in, compare_in, two_in, store_in, one_in, operands_in, line, line_in}
 use Rattle.assembler.specs.Resolve.{settled, encoded_by}
 use Rattle.printer.specs.Listing.{register_text, operand_text, comma, three_text, two_text, store_text, one_text, operation_text}
 use Rattle.printer.proofs.Fronts.{every, and_left, and_right, every_append}
@@ -44,28 +44,30 @@ then r x f e = ap (λ q. and_then q f) e
 abbrev made : Mnemonic → ℕ → ℕ → Operand → StatementView
 made m i j a = record { mnemonic = m; destination = i; source = j; operand = view_of a }
 
+pair_back : (width i : ℕ) (a : Operand) → i < 16 → named a ≡ true → operand_word a < 2 ^ 32 → pair_in width (32 ∷ (register_text i ++ comma (operand_text a))) ≡ Some ((i, view_of a), [])
+pair_back width i a h n w =
+    then _ _ _ (register_in_lem width i (comma (operand_text a)) h refl)
+    ∙ (then _ _ _ (comma_in_lem (operand_text a)) ∙ ap (option_map (λ (x : ArgumentView × List ℕ). ((i, x.0), x.1))) (operand_last width a n w))
+
 three_back : (m : Mnemonic) (width i j : ℕ) (a : Operand) → Bounds i j a → three_in m width (32 ∷ (register_text i ++ comma (register_text j ++ comma (operand_text a)))) ≡ Some (made m i j a, [])
 three_back m width i j a h =
     then _ _ _ (register_in_lem width i (comma (register_text j ++ comma (operand_text a))) h.left refl)
     ∙ (then _ _ _ (comma_in_lem (register_text j ++ comma (operand_text a)))
-    ∙ (then _ _ _ (register_in_lem width j (comma (operand_text a)) h.right refl)
-    ∙ (then _ _ _ (comma_in_lem (operand_text a))
-    ∙ ap (option_map (stated m i j)) (operand_last width a h.known h.word))))
+    ∙ ap (option_map (λ (x : (ℕ × ArgumentView) × List ℕ). stated m i x.0.0 (x.0.1, x.1))) (pair_back width j a h.right h.known h.word))
 
 compare_back : (m : Mnemonic) (width j : ℕ) (a : Operand) → Bounds 0 j a → compare_in m width (32 ∷ (register_text j ++ comma (operand_text a))) ≡ Some (made m 0 j a, [])
-compare_back m width j a h =
-    then _ _ _ (register_in_lem width j (comma (operand_text a)) h.right refl)
-    ∙ (then _ _ _ (comma_in_lem (operand_text a)) ∙ ap (option_map (stated m 0 j)) (operand_last width a h.known h.word))
+compare_back m width j a h = ap (option_map (λ (x : (ℕ × ArgumentView) × List ℕ). stated m 0 x.0.0 (x.0.1, x.1))) (pair_back width j a h.right h.known h.word)
 
 two_back : (m : Mnemonic) (width i : ℕ) (a : Operand) → Bounds i 0 a → two_in m width (32 ∷ (register_text i ++ comma (operand_text a))) ≡ Some (made m i 0 a, [])
-two_back m width i a h =
-    then _ _ _ (register_in_lem width i (comma (operand_text a)) h.left refl)
-    ∙ (then _ _ _ (comma_in_lem (operand_text a)) ∙ ap (option_map (stated m i 0)) (operand_last width a h.known h.word))
+two_back m width i a h = ap (option_map (λ (x : (ℕ × ArgumentView) × List ℕ). stated m x.0.0 0 (x.0.1, x.1))) (pair_back width i a h.left h.known h.word)
+
+reversed_back : (width i : ℕ) (a : Operand) → i < 16 → named a ≡ true → operand_word a < 2 ^ 32 → reversed_in width (32 ∷ (operand_text a ++ comma (register_text i))) ≡ Some ((i, view_of a), [])
+reversed_back width i a h n w =
+    then _ _ _ (operand_back width a (comma (register_text i)) n w refl)
+    ∙ (then _ _ _ (comma_in_lem (register_text i)) ∙ ap (option_map (λ (x : ℕ × List ℕ). ((x.0, view_of a), x.1))) (register_last width i h))
 
 store_back : (m : Mnemonic) (width i : ℕ) (a : Operand) → Bounds i 0 a → store_in m width (32 ∷ (operand_text a ++ comma (register_text i))) ≡ Some (made m i 0 a, [])
-store_back m width i a h =
-    then _ _ _ (operand_back width a (comma (register_text i)) h.known h.word refl)
-    ∙ (then _ _ _ (comma_in_lem (register_text i)) ∙ ap (option_map (λ (x : ℕ × List ℕ). stated m x.0 0 (view_of a, x.1))) (register_last width i h.left))
+store_back m width i a h = ap (option_map (λ (x : (ℕ × ArgumentView) × List ℕ). stated m x.0.0 0 (x.0.1, x.1))) (reversed_back width i a h.left h.known h.word)
 
 one_back : (m : Mnemonic) (width : ℕ) (a : Operand) → Bounds 0 0 a → one_in m width (32 ∷ operand_text a) ≡ Some (made m 0 0 a, [])
 one_back m width a h = ap (option_map (stated m 0 0)) (operand_last width a h.known h.word)

@@ -9,10 +9,8 @@ use Rattle.encoding.specs.declared.operation.Condition.TheVariants.{Always, IfFl
 use Rattle.encoding.specs.declared.mnemonic.Mnemonic as encoding
 use Rattle.encoding.specs.declared.mnemonic.Mnemonic.TheVariants.{Compute, Not, Compare, Move, MoveIfFlag, Jump, Store, Load, Read, Answer}
 use Rattle.lexer.specs.declared.class.Class.TheVariants.{Blank, Word, Line}
-use Rattle.lexer.specs.declared.token.Kind.{Kind}
-use Rattle.lexer.specs.declared.token.Kind.TheVariants.{Mnemonic}
 use Rattle.lexer.specs.Classes.{belongs, past}
-use Rattle.lexer.specs.Tokens.{start_of, kind_of, text_of, rest_of}
+use Rattle.lexer.specs.Tokens.{Kind, Mnemonic, start_of, kind_of, text_of, rest_of}
 use Rattle.mnemonics.specs.Names.{name_of, mnemonic_of}
 use Rattle.parser.specs.Operands.{and_then}
 use Rattle.parser.specs.Statements.{LineView, whole, statement_from, line_from, line, line_in}

@@ -6,10 +6,8 @@ use Rattle.encoding.specs.declared.operation.Operand.{Operand}
 use Rattle.encoding.specs.declared.operation.Operand.TheVariants as operand
 use Rattle.encoding.specs.Encoding as encoding
 use Rattle.lexer.specs.declared.class.Class.TheVariants.{Blank, Word}
-use Rattle.lexer.specs.declared.token.Kind.{Kind}
-use Rattle.lexer.specs.declared.token.Kind.TheVariants.{Register, Integer}
 use Rattle.lexer.specs.Classes.{belongs, front, past}
-use Rattle.lexer.specs.Tokens.{kind_of, text_of, rest_of}
+use Rattle.lexer.specs.Tokens.{Kind, Register, Integer, kind_of, text_of, rest_of}
 use Rattle.parser.specs.Numbers.{register_of, integer_of}
 use Rattle.parser.specs.Operands.{ArgumentView, register, integer, argument_from, and_then, on_register, on_comma, comma_in, operand_in, register_in}
 use Rattle.printer.specs.Listing.{register_text, operand_text, comma}
