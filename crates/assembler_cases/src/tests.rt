@@ -20,7 +20,7 @@ answer 0
 
 #[test]
 fn good_lines(rt: HostRuntime) -> Result<(), Fail> {
-    for (line, words) in good::CASES {
+    for &(line, words) in &good::CASES {
         let text = format!(in rt.alloc(); "; TinyRAM V=2.000 M=hv W=32 K=16\n{line}")?;
         let mut table = [OLD; 2];
         assert_eq!(rt; answer(text.as_str(), &mut table), Ok(1), "{}", line);
@@ -32,7 +32,7 @@ fn good_lines(rt: HostRuntime) -> Result<(), Fail> {
 
 #[test]
 fn bad_lines(rt: HostRuntime) -> Result<(), Fail> {
-    for line in bad::CASES {
+    for &line in &bad::CASES {
         let text = format!(in rt.alloc(); "; TinyRAM V=2.000 M=hv W=32 K=16\n{line}")?;
         let mut table = [OLD; 1];
         assert_eq!(rt;
@@ -48,7 +48,7 @@ fn bad_lines(rt: HostRuntime) -> Result<(), Fail> {
 
 #[test]
 fn refused_texts(rt: HostRuntime) {
-    for (text, number, value) in refused::CASES {
+    for &(text, number, value) in &refused::CASES {
         let mut table = [OLD; 4];
         assert_eq!(rt;
             answer(text, &mut table),
@@ -62,7 +62,7 @@ fn refused_texts(rt: HostRuntime) {
 
 #[test]
 fn whole_programs(rt: HostRuntime) {
-    for (text, len, after) in programs::CASES {
+    for &(text, len, after) in &programs::CASES {
         let mut table = [OLD; 4];
         assert_eq!(rt; answer(text, &mut table), Ok(len), "{}", text);
         assert_eq!(rt; table, after.map(instruction), "{}", text);
@@ -72,7 +72,7 @@ fn whole_programs(rt: HostRuntime) {
 // What is printed of each good line's instruction assembles to it again.
 #[test]
 fn printed_lines(rt: HostRuntime) -> Result<(), Fail> {
-    for (line, words) in good::CASES {
+    for &(line, words) in &good::CASES {
         let text = print_program(rt.alloc(), &[instruction(words)])?;
         let mut table = [OLD; 1];
         assert_eq!(rt; answer(text.as_str(), &mut table), Ok(1), "{}", line);
