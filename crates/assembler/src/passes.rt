@@ -10,7 +10,7 @@ use crate::resolve::Undefined;
 use encoding::instruction::Instruction;
 use lexer::lines::Lines;
 
-impl<'a> Labels<'a> {
+impl Labels<'_> {
     // How many entries the lines of a text need, of which the first is line 2.
     #[tactic(auto, using(lexer::proofs::Split::lines_length))]
     pub(crate) fn entries(&self, text: &str) -> Result<usize, AssemblyError>

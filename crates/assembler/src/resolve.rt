@@ -15,9 +15,9 @@ use parser::statement::{Statement, read_line};
 #[derive(Clone, Copy)]
 pub struct Undefined;
 
-impl<'a> Labels<'a> {
+impl Labels<'_> {
     // `A`, with its label replaced by the number that it stands for.
-    fn settle<'b>(&self, argument: Argument<'b>) -> Option<Operand>
+    fn settle(&self, argument: Argument<'_>) -> Option<Operand>
         ensures { result ≡ settled (known self.now) (view_argument argument.entry) }
     {
         match argument {
@@ -27,7 +27,7 @@ impl<'a> Labels<'a> {
         }
     }
 
-    fn encode<'b>(&self, statement: Statement<'b>) -> Option<Instruction>
+    fn encode(&self, statement: Statement<'_>) -> Option<Instruction>
         ensures { result ≡ encoded_by (known self.now) (view_statement statement.entry) }
     {
         place(

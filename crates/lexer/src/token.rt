@@ -32,7 +32,7 @@ pub fn after_mark(s: &str, mark: char) -> Option<&str>
 }
 
 // The first token of a text with no blank in front, and what follows it.
-fn first_token<'a>(s: &'a str, place: usize) -> (Token<'a>, &'a str)
+fn first_token(s: &str, place: usize) -> (Token<'_>, &str)
     ensures token { seen result.0 ≡ token_at place s.now }
     ensures rest { result.1.now ≡ rest_of (kind_of s.now) s.now }
 {

@@ -24,7 +24,7 @@ pub(crate) fn is_label(text: &str) -> bool
     text.len() > 1 && rest.is_empty()
 }
 
-fn argument_of<'a>(token: Token<'a>) -> Option<Argument<'a>>
+fn argument_of(token: Token<'_>) -> Option<Argument<'_>>
     ensures { option_map view_argument result ≡ argument_of (seen token.entry) }
 {
     match token {
@@ -36,7 +36,7 @@ fn argument_of<'a>(token: Token<'a>) -> Option<Argument<'a>>
 }
 
 // Takes a comma.
-pub(crate) fn read_comma<'a>(line: &mut Cursor<'a>) -> Option<()>
+pub(crate) fn read_comma(line: &mut Cursor<'_>) -> Option<()>
     ensures rest { option_map (λ _. line.new.rest.now) result ≡ comma_in line.old.rest.now }
     ensures width { line.new.width ≡ line.old.width }
 {
@@ -44,7 +44,7 @@ pub(crate) fn read_comma<'a>(line: &mut Cursor<'a>) -> Option<()>
 }
 
 // Whether nothing follows but blanks and a comment.
-pub(crate) fn is_end<'a>(mut line: Cursor<'a>) -> bool
+pub(crate) fn is_end(mut line: Cursor<'_>) -> bool
     ensures { result ≡ ended line.entry.rest.now }
 {
     matches!(line.next_token(), Token::End(_))
@@ -59,7 +59,7 @@ pub(crate) fn read_operand<'a>(line: &mut Cursor<'a>) -> Option<Argument<'a>>
 }
 
 // Takes a register, and answers its number.
-pub(crate) fn read_register<'a>(line: &mut Cursor<'a>) -> Option<u8>
+pub(crate) fn read_register(line: &mut Cursor<'_>) -> Option<u8>
     ensures value { left (λ n. n) result line.new ≡ register_in line.old.width line.old.rest.now }
     ensures width { line.new.width ≡ line.old.width }
 {

@@ -84,7 +84,7 @@ fn read_operands<'a>(mnemonic: Mnemonic, line: &mut Cursor<'a>) -> Option<Statem
 }
 
 // An instruction or none, up to the end of the line.
-fn read_statement<'a>(mut line: Cursor<'a>) -> Option<Option<Statement<'a>>>
+fn read_statement(mut line: Cursor<'_>) -> Option<Option<Statement<'_>>>
     ensures { option_map (option_map view_statement) result ≡ statement_in line.entry.width line.entry.rest.now }
 {
     match line.next_token() {
@@ -99,7 +99,7 @@ fn read_statement<'a>(mut line: Cursor<'a>) -> Option<Option<Statement<'a>>>
 }
 
 // A line, or `None` where it cannot be read.
-pub fn read_line<'a>(line: &'a str) -> Option<Line<'a>>
+pub fn read_line(line: &str) -> Option<Line<'_>>
     ensures { option_map view_line result ≡ line_in line.now }
 {
     let mut cursor = Cursor::new(line);

@@ -1,6 +1,8 @@
 -- A printed program assembles to itself. Assumes nothing.
 use Rattle.std.proofs.Common.{◌≡◌, ℕ, ◌+◌, ◌^◌, ◌<◌, ◌≤◌, true, false, cond, eqb, ltb, List, [], ◌∷◌, ◌++◌, map, length, get_or, take, is_some, Some, None, Ok, Err, Option, Result, unwrap_or, sym, refl, ap, ◌∙◌, append_assoc, arith}
 use Rattle.std.proofs.lemmas.List.{take_more, flat_map_more}
+use Rattle.std.proofs.lemmas.Bool.{and_parts}
+use Rattle.std.specs.List.{list_all}
 use Rattle.std.proofs.lemmas.Bool.Decides.{nat_tests}
 use Rattle.encoding.specs.declared.instruction.Instruction as encoding
 use Rattle.encoding.specs.Encoding.{decoded, encoded, meant}
@@ -20,7 +22,7 @@ use Rattle.assembler.specs.declared.error.AssemblyError.TheVariants.{Header}
 use Rattle.std.specs.Str.{bytes_eq}
 use Rattle.printer.specs.Listing.{operation_text, line_text, listing, printed}
 use Rattle.printer.specs.Back.{Printable, PrintedAssembles}
-use Rattle.printer.proofs.Fronts.{every, and_left, and_right, front_append, past_append}
+use Rattle.printer.proofs.Fronts.{front_append, past_append}
 use Rattle.printer.proofs.Lines.{line_of_lem, encoded_of, plain_of}
 
 -- ONE INSTRUCTION
@@ -36,7 +38,7 @@ module _ (n : encoding.Instruction) (f : well_formed n ≡ true) (s : n.second <
   says : encoded (meant n) ≡ Some n
   says = decoded_only n (meant n) (value_of (decoded n) _ (formed_is n ∙ f))
 
-  line_plain : every (belongs Line) (line_of n) ≡ true
+  line_plain : list_all (belongs Line) (line_of n) ≡ true
   line_plain = plain_of (meant n) n says s
 
   line_steps : (k : Known) (at : ℕ) → ltb k.count 4096 ≡ true → stepped k at (line_of n) ≡ Ok (record { labels = k.labels; count = k.count + 1 })
@@ -53,10 +55,10 @@ line_first b ls bs h e =
     let q : eqb b 13 ≡ false = grind (arith, nat_tests) in
     rw (p, q, e) refl
 
-lines_line : (l rest : List ℕ) → every (belongs Line) l ≡ true → lines (l ++ (10 ∷ rest)) ≡ l ∷ lines rest
+lines_line : (l rest : List ℕ) → list_all (belongs Line) l ≡ true → lines (l ++ (10 ∷ rest)) ≡ l ∷ lines rest
 lines_line [] rest h = refl
 lines_line (b ∷ l) rest h =
-    line_first b (l ∷ lines rest) (l ++ (10 ∷ rest)) (and_left (belongs Line b) (every (belongs Line) l) h) (lines_line l rest (and_right (belongs Line b) (every (belongs Line) l) h))
+    line_first b (l ∷ lines rest) (l ++ (10 ∷ rest)) ((and_parts (belongs Line b) (list_all (belongs Line) l) h).0) (lines_line l rest ((and_parts (belongs Line b) (list_all (belongs Line) l) h).1))
 
 listing_more : (n : encoding.Instruction) (p : List encoding.Instruction) → listing (n ∷ p) ≡ line_of n ++ (10 ∷ listing p)
 listing_more n p = append_assoc (line_of n) (10 ∷ []) (listing p)
@@ -96,7 +98,7 @@ body_all p l h =
 abbrev on_header : List ℕ → List (List ℕ) → Result (List encoding.Instruction) AssemblyError
 on_header first ls = cond (bytes_eq first header) (body ls) (Err Header)
 
-header_plain : every (belongs Line) header ≡ true
+header_plain : list_all (belongs Line) header ≡ true
 header_plain = refl
 
 pub printed_assembles : PrintedAssembles

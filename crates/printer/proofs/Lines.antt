@@ -1,5 +1,7 @@
 -- A printed line is read as its instruction. Assumes nothing.
 use Rattle.std.proofs.Common.{◌≡◌, ℕ, ◌^◌, ◌<◌, true, cond, ◌&&◌, ltb, List, [], ◌∷◌, ◌++◌, length, Some, None, Option, refl, ap, ◌∙◌, arith}
+use Rattle.std.proofs.lemmas.Bool.{and_parts}
+use Rattle.std.specs.List.{list_all}
 use Rattle.std.proofs.lemmas.Bool.Decides.{nat_tests}
 use Rattle.std.specs.Option.{option_map}
 use Rattle.encoding.specs.declared.mnemonic.Mnemonic.{Mnemonic}
@@ -18,7 +20,7 @@ use Rattle.parser.specs.Operands.{ArgumentView, and_then, ended}
 use Rattle.parser.specs.Statements.{StatementView, stated, pair_in, reversed_in, three_in, compare_in, two_in, store_in, one_in, operands_in, line, line_in}
 use Rattle.assembler.specs.Resolve.{settled, encoded_by}
 use Rattle.printer.specs.Listing.{register_text, operand_text, comma, three_text, two_text, store_text, one_text, operation_text}
-use Rattle.printer.proofs.Fronts.{every, and_left, and_right, every_append}
+use Rattle.printer.proofs.Fronts.{every_append}
 use Rattle.printer.proofs.Digits.{decimal_line}
 use Rattle.printer.proofs.Operands.{view_of, operand_back, operand_last, register_in_lem, register_last, comma_in_lem}
 use Rattle.printer.proofs.Names.{name_plain, line_named}
@@ -32,11 +34,11 @@ record Bounds (i j : ℕ) (a : Operand) : Type 0 where
 bounds : (m : Mnemonic) (i j : ℕ) (a : Operand) (n : Instruction) → placed m i j a ≡ Some n → n.second < 2 ^ 32 → Bounds i j a
 bounds m i j a n e s =
     let h = if_some (ltb i 16 && (ltb j 16 && named a)) (packed m i j a) n e in
-    let r = and_right (ltb i 16) (ltb j 16 && named a) h.0 in
-    let l : ltb i 16 ≡ true = and_left (ltb i 16) (ltb j 16 && named a) h.0 in
-    let k : ltb j 16 ≡ true = and_left (ltb j 16) (named a) r in
+    let r = (and_parts (ltb i 16) (ltb j 16 && named a) h.0).1 in
+    let l : ltb i 16 ≡ true = (and_parts (ltb i 16) (ltb j 16 && named a) h.0).0 in
+    let k : ltb j 16 ≡ true = (and_parts (ltb j 16) (named a) r).0 in
     let w : operand_word a ≡ n.second = ap (λ (x : Instruction). x.second) h.1 in
-    record { left = grind (arith, nat_tests); right = grind (arith, nat_tests); known = and_right (ltb j 16) (named a) r; word = omega arith }
+    record { left = grind (arith, nat_tests); right = grind (arith, nat_tests); known = (and_parts (ltb j 16) (named a) r).1; word = omega arith }
 
 then : {A B : Type 0} (r : Option A) (x : A) (f : A → Option B) → r ≡ Some x → and_then r f ≡ f x
 then r x f e = ap (λ q. and_then q f) e
@@ -123,7 +125,7 @@ encoded_of (O.Answer a) = placed_back M.Answer 0 0 a
 -- NO LINE END IN A LINE
 
 abbrev Plain : List ℕ → Type 0
-Plain w = every (belongs Line) w ≡ true
+Plain w = list_all (belongs Line) w ≡ true
 
 register_plain : (i : ℕ) → i < 16 → Plain (register_text i)
 register_plain i h = decimal_line i (omega arith)
@@ -150,7 +152,7 @@ store_plain m i a h =
 one_plain : (m : Mnemonic) (a : Operand) → Bounds 0 0 a → Plain (one_text m a)
 one_plain m a h = join (name_of m) _ (name_plain m) (operand_plain 0 0 a h)
 
-pub plain_of : (o : Operation) (n : Instruction) → encoded o ≡ Some n → n.second < 2 ^ 32 → every (belongs Line) (operation_text o) ≡ true
+pub plain_of : (o : Operation) (n : Instruction) → encoded o ≡ Some n → n.second < 2 ^ 32 → list_all (belongs Line) (operation_text o) ≡ true
 plain_of (O.Compute b i j a) n e s = three_plain (M.Compute b) i j a (bounds (M.Compute b) i j a n e s)
 plain_of (O.Not i a) n e s = let h = bounds M.Not i 0 a n e s in two_plain M.Not i i 0 a h.left h
 plain_of (O.Compare b j a) n e s = let h = bounds (M.Compare b) 0 j a n e s in two_plain (M.Compare b) j 0 j a h.right h
