@@ -165,8 +165,8 @@ def main():
     for line in GOOD:
         number, value, program = assemble(LINE + line, SIZE)
         assert (number, value) == (0, 1), line
-        rows.append("(%s, 0x%X, %d)" % (quoted(line), program[0][0], program[0][1]))
-    write("good.rt", "Lines with one instruction, and its two words.", "(&str, u32, u32)", rows)
+        rows.append("(%s, (0x%X, %d))" % (quoted(line), program[0][0], program[0][1]))
+    write("good.rt", "Lines with one instruction, and its two words.", "(&str, (u32, u32))", rows)
     rows = []
     for line in BAD:
         assert assemble(LINE + line, SIZE) == (10, 2, []), line

@@ -1,5 +1,2 @@
-mod Tables
-mod Turns
-mod Overlays
-mod Fronts
-mod Whole
+pub mod Tables
+pub mod Overlays

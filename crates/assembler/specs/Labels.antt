@@ -3,24 +3,25 @@
 --   found name ls  the number that a name stands for among the labels ls
 --   Known          what some lines define: labels, and how many instructions there are
 -- Assumes nothing.
-use Rattle.std.specs.Prelude.{ℕ, zero, suc, cond, List, [], ◌∷◌, Some, None, Option}
-use Rattle.std.specs.Borrow.{Bor}
+use Rattle.std.specs.Prelude.{ℕ, List, [], map, Option}
+use Rattle.std.specs.List.{find}
+use Rattle.std.specs.Option.{option_map}
 use Rattle.std.specs.Str.{bytes_eq}
+use Rattle.assembler.specs.declared.labels.Label.{Label}
 use Rattle.assembler.specs.declared.labels.Labels as declared
 
--- the first n entries of two arrays
-abbrev pub paired : ℕ → List (Bor (List ℕ)) → List ℕ → List (List ℕ × ℕ)
-paired zero names numbers = []
-paired (suc n) [] numbers = []
-paired (suc n) (w ∷ names) [] = []
-paired (suc n) (w ∷ names) (k ∷ numbers) = (w.now, k) ∷ paired n names numbers
+abbrev pub entry : Label → List ℕ × ℕ
+entry l = (l.name.now, l.number)
+
+-- the first label of a name
+abbrev pub label_in : List ℕ → List Label → Option Label
+label_in name ls = find (λ l. bytes_eq l.name.now name) ls
 
 abbrev pub known : declared.Labels → List (List ℕ × ℕ)
-known t = paired t.len t.names t.numbers
+known t = map entry t.labels.items
 
 abbrev pub found : List ℕ → List (List ℕ × ℕ) → Option ℕ
-found name [] = None
-found name (l ∷ ls) = cond (bytes_eq l.0 name) (Some l.1) (found name ls)
+found name ls = option_map (λ l. l.1) (find (λ l. bytes_eq l.0 name) ls)
 
 pub record Known : Type 0 where
   pub labels : List (List ℕ × ℕ)

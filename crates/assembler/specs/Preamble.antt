@@ -1,9 +1,10 @@
 -- The preamble.
 --   preamble         the eight instructions
---   starts_with f p  the list p starts with the instructions f
---   properness p     1 if p starts with the preamble, else 0
+--   same_words a b   the instructions a and b are the same
+--   is_proper p      the list p starts with the preamble
 -- Assumes nothing.
-use Rattle.std.specs.Prelude.{ℕ, Bool, true, false, cond, ◌&&◌, List, [], ◌∷◌, ◌==◌}
+use Rattle.std.specs.Prelude.{Bool, ◌&&◌, List, [], ◌∷◌, ◌==◌}
+use Rattle.std.specs.List.{starts_with}
 use Rattle.word.specs.declared.operator.Arithmetic.TheVariants.{Add}
 use Rattle.word.specs.declared.cell.Size.TheVariants.{Word}
 use Rattle.encoding.specs.declared.operation.Condition.TheVariants.{Always, IfFlag}
@@ -28,10 +29,5 @@ preamble =
 abbrev pub same_words : Instruction → Instruction → Bool
 same_words a b = a.first == b.first && a.second == b.second
 
-abbrev pub starts_with : List Instruction → List Instruction → Bool
-starts_with [] p = true
-starts_with (n ∷ f) [] = false
-starts_with (n ∷ f) (m ∷ p) = same_words n m && starts_with f p
-
-abbrev pub properness : List Instruction → ℕ
-properness p = cond (starts_with preamble p) 1 0
+abbrev pub is_proper : List Instruction → Bool
+is_proper p = starts_with same_words p preamble

@@ -3,19 +3,17 @@
 --   checked n ls lines every label that is an operand is defined, else the first line where one is not
 --   overlaid at p out  the table out with the instructions p from place at on
 -- Assumes nothing.
-use Rattle.std.specs.Prelude.{ℕ, suc, ◌+◌, List, [], ◌∷◌, ◌++◌, length, Ok, Err, Result, slice_set}
+use Rattle.std.specs.Prelude.{ℕ, suc, ◌+◌, List, [], ◌∷◌, ◌++◌, length, Some, None, Ok, Err, Result, slice_set}
 use Rattle.encoding.specs.declared.instruction.Instruction as encoding
 use Rattle.assembler.specs.declared.error.AssemblyError.{AssemblyError}
 use Rattle.assembler.specs.declared.error.AssemblyError.TheVariants as error
-use Rattle.assembler.specs.declared.resolve.Given.{Given}
-use Rattle.assembler.specs.declared.resolve.Given.TheVariants.{Nothing, Instruction, Undefined}
 use Rattle.assembler.specs.Scan.{onwards}
-use Rattle.assembler.specs.Resolve.{line_gives}
+use Rattle.assembler.specs.Resolve.{Given, line_gives}
 
 abbrev pub listed : Given → List encoding.Instruction
-listed Nothing = []
-listed (Instruction n) = n ∷ []
-listed Undefined = []
+listed (Ok (Some i)) = i ∷ []
+listed (Ok None) = []
+listed (Err e) = []
 
 abbrev pub program : List (List ℕ × ℕ) → List (List ℕ) → List encoding.Instruction
 program ls [] = []
@@ -23,9 +21,9 @@ program ls (l ∷ lines) = listed (line_gives ls l) ++ program ls lines
 
 -- how many entries a line needs, which is line n
 abbrev pub entries : ℕ → Given → Result ℕ AssemblyError
-entries n Nothing = Ok 0
-entries n (Instruction i) = Ok 1
-entries n Undefined = Err (error.Undefined n)
+entries n (Ok (Some i)) = Ok 1
+entries n (Ok None) = Ok 0
+entries n (Err e) = Err (error.Undefined n)
 
 abbrev pub checked : ℕ → List (List ℕ × ℕ) → List (List ℕ) → Result (Unit {0}) AssemblyError
 checked n ls [] = Ok tt

@@ -2,7 +2,6 @@
 #![tactic(auto)]
 
 pub mod error;
-mod known;
 mod labels;
 mod passes;
 pub mod preamble;

@@ -1,6 +1,6 @@
 // The preamble, which reads the primary words into memory.
 ghost use Rattle.std.specs.Prelude.{◌≡◌};
-ghost use Rattle.assembler.specs.Preamble.{same_words, starts_with, properness};
+ghost use Rattle.assembler.specs.Preamble.{is_proper};
 
 use encoding::instruction::Instruction;
 
@@ -47,33 +47,9 @@ const PREAMBLE: [Instruction; 8] = [
     },
 ];
 
-fn same_words(a: Instruction, b: Instruction) -> bool
-    ensures { result ≡ same_words a b }
+// Whether a program is proper: it starts with the preamble.
+pub fn is_proper(program: &[Instruction]) -> bool
+    ensures { result ≡ is_proper program.now }
 {
-    a.first == b.first && a.second == b.second
-}
-
-fn starts_with(program: &[Instruction], front: &[Instruction]) -> bool
-    ensures { result ≡ starts_with front.now program.now }
-{
-    if program.len() < front.len() {
-        return false;
-    }
-    for i in 0..front.len() {
-        if !same_words(front[i], program[i]) {
-            return false;
-        }
-    }
-    true
-}
-
-// 1 if the program is proper: it starts with the preamble; else 0.
-pub fn proper(program: &[Instruction]) -> u8
-    ensures { result ≡ properness program.now }
-{
-    if starts_with(program, &PREAMBLE) {
-        1
-    } else {
-        0
-    }
+    program.starts_with(&PREAMBLE)
 }

@@ -1,5 +1,5 @@
 // The first pass: the labels, the count of instructions, and the refusals of single lines.
-ghost use Rattle.std.specs.Prelude.{◌≡◌, ◌≤◌};
+ghost use Rattle.std.specs.Prelude.{◌≡◌};
 ghost use Rattle.std.specs.Option.{option_map};
 ghost use Rattle.lexer.specs.Lines.{lines};
 ghost use Rattle.parser.specs.Statements.{view_label};
@@ -7,77 +7,66 @@ ghost use Rattle.assembler.specs.Labels.{summary};
 ghost use Rattle.assembler.specs.Scan.{outcome, labelled, counted, stepped, scanned};
 
 use crate::error::AssemblyError;
-use crate::labels::Labels;
-use lexer::lines::next_line;
+use crate::labels::{Label, Labels};
+use lexer::lines::Lines;
 use lexer::token::Word;
 use parser::statement::read_line;
 
-// Takes the label of line `n`, if it has one.
-fn define<'a>(
-    known: &mut Labels<'a>,
-    label: Option<Word<'a>>,
-    n: usize,
-) -> Result<(), AssemblyError>
-    ensures { outcome result known.new ≡ labelled (summary known.old) n (option_map view_label label.entry) }
-{
-    let Some(word) = label else {
-        return Ok(());
-    };
-    if known.find(word.text).is_some() {
-        return Err(AssemblyError::Redefined(n));
-    }
-    if known.size() >= 256 {
-        return Err(AssemblyError::TooMany(n));
-    }
-    let number = known.count;
-    known.add(word.text, number);
-    Ok(())
-}
-
-// Counts the instruction of line `n`, if it has one.
-fn tally<'a>(known: &mut Labels<'a>, some: bool, n: usize) -> Result<(), AssemblyError>
-    ensures { outcome result known.new ≡ counted (summary known.old) n some }
-{
-    if !some {
-        return Ok(());
-    }
-    if known.count >= 4096 {
-        return Err(AssemblyError::TooMany(n));
-    }
-    known.count += 1;
-    Ok(())
-}
-
-// Takes line `n`.
-fn take_line<'a>(known: &mut Labels<'a>, line: &'a str, n: usize) -> Result<(), AssemblyError>
-    ensures { outcome result known.new ≡ stepped (summary known.old) n line.now }
-{
-    let Some(parts) = read_line(line) else {
-        return Err(AssemblyError::Unreadable(n));
-    };
-    define(known, parts.label, n)?;
-    tally(known, parts.statement.is_some(), n)
-}
-
-// Takes the lines of a text, of which the first is line `first`.
-pub(crate) fn scan<'a>(
-    known: &mut Labels<'a>,
-    text: &'a str,
-    first: usize,
-) -> Result<(), AssemblyError>
-    requires { first ≤ 2 }
-    ensures { outcome result known.new ≡ scanned first (summary known.old) (lines text.now) }
-{
-    let mut rest = text;
-    let mut n = first;
-    while !rest.is_empty() {
-        let (line, after) = next_line(rest);
-        match take_line(known, line, n) {
-            Ok(()) => {}
-            Err(e) => return Err(e),
+impl<'a> Labels<'a> {
+    // Takes the label of line `n`, if it has one.
+    fn define(&mut self, label: Option<Word<'a>>, n: usize) -> Result<(), AssemblyError>
+        ensures { outcome result self.new ≡ labelled (summary self.old) n (option_map view_label label.entry) }
+    {
+        let Some(word) = label else {
+            return Ok(());
+        };
+        if self.find(word.text).is_some() {
+            return Err(AssemblyError::Redefined(n));
         }
-        rest = after;
-        n += 1;
+        if self.labels.is_full() {
+            return Err(AssemblyError::TooMany(n));
+        }
+        let number = self.count;
+        self.labels.push(Label {
+            name: word.text,
+            number,
+        });
+        Ok(())
     }
-    Ok(())
+
+    // Counts the instruction of line `n`, if it has one.
+    fn tally(&mut self, some: bool, n: usize) -> Result<(), AssemblyError>
+        ensures { outcome result self.new ≡ counted (summary self.old) n some }
+    {
+        if !some {
+            return Ok(());
+        }
+        if self.count >= 4096 {
+            return Err(AssemblyError::TooMany(n));
+        }
+        self.count += 1;
+        Ok(())
+    }
+
+    // Takes line `n`.
+    fn take_line(&mut self, line: &'a str, n: usize) -> Result<(), AssemblyError>
+        ensures { outcome result self.new ≡ stepped (summary self.old) n line.now }
+    {
+        let Some(parts) = read_line(line) else {
+            return Err(AssemblyError::Unreadable(n));
+        };
+        self.define(parts.label, n)?;
+        self.tally(parts.statement.is_some(), n)
+    }
+
+    // Takes the lines of a text, of which the first is line 2.
+    #[tactic(auto, using(lexer::proofs::Split::lines_length))]
+    pub(crate) fn scan(&mut self, text: &'a str) -> Result<(), AssemblyError>
+        ensures { outcome result self.new ≡ scanned 2 (summary self.old) (lines text.now) }
+    {
+        for (i, line) in Lines(text).enumerate() {
+            self.take_line(line, 2 + i)?;
+        }
+        Ok(())
+    }
 }

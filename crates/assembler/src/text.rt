@@ -1,24 +1,15 @@
 // The whole text.
-ghost use Rattle.std.specs.Prelude.{◌≡◌, length, nat_lt};
-ghost use Rattle.std.specs.Str.{bytes_eq};
+ghost use Rattle.std.specs.Prelude.{◌≡◌, length};
 ghost use Rattle.assembler.specs.Labels.{summary, none};
-ghost use Rattle.assembler.specs.Text.{header, assembled, prepared, sized, answer, left};
+ghost use Rattle.assembler.specs.Text.{assembled, prepared, sized, answer, left};
 
 use crate::error::AssemblyError;
 use crate::labels::Labels;
-use crate::passes::{count, write};
-use crate::scan::scan;
 use encoding::instruction::Instruction;
 use lexer::lines::next_line;
 
 // The first line of every program.
-const HEADER: &[u8; 32] = b"; TinyRAM V=2.000 M=hv W=32 K=16";
-
-fn is_header(line: &str) -> bool
-    ensures { result ≡ bytes_eq line.now header }
-{
-    line.as_bytes() == HEADER.as_slice()
-}
+pub const HEADER: &str = "; TinyRAM V=2.000 M=hv W=32 K=16";
 
 // Takes the header and the labels of a text, and answers how many entries the program needs.
 fn prepare<'a>(labels: &mut Labels<'a>, text: &'a str) -> Result<usize, AssemblyError>
@@ -27,19 +18,11 @@ fn prepare<'a>(labels: &mut Labels<'a>, text: &'a str) -> Result<usize, Assembly
     ensures needed { result ≡ sized (assembled text.now) }
 {
     let (first, rest) = next_line(text);
-    if !is_header(first) {
+    if first != HEADER {
         return Err(AssemblyError::Header);
     }
-    match scan(labels, rest, 2) {
-        Ok(()) => count(labels, rest, 2),
-        Err(e) => Err(e),
-    }
-}
-
-fn is_short(size: usize, needed: usize) -> bool
-    ensures { result ≡ nat_lt size needed }
-{
-    size < needed
+    labels.scan(rest)?;
+    labels.entries(rest)
 }
 
 // Assembles a text into a lent table, and answers the length of the program. The entries
@@ -50,9 +33,9 @@ pub fn assemble(text: &str, table: &mut [Instruction]) -> Result<usize, Assembly
 {
     let mut labels = Labels::new();
     let needed = prepare(&mut labels, text)?;
-    if is_short(table.len(), needed) {
+    if table.len() < needed {
         return Err(AssemblyError::TableTooShort(needed));
     }
     let (_, rest) = next_line(text);
-    Ok(write(&labels, rest, table))
+    Ok(labels.write(rest, table))
 }

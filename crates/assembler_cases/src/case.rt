@@ -1,4 +1,5 @@
 // A table of four entries, and what assembling into it answers.
+use assembler::error::{AssemblyError, Refusal};
 use assembler::text::assemble;
 use encoding::instruction::Instruction;
 
@@ -8,17 +9,19 @@ pub const OLD: Instruction = Instruction {
     second: 0x5A5A_5A5A,
 };
 
-// The refusal's number and value, or 0 and the length of the program.
-pub fn answer(text: &str, table: &mut [Instruction]) -> (u8, usize) {
-    match assemble(text, table) {
-        Ok(len) => (0, len),
-        Err(e) => {
-            let refusal = e.refusal();
-            (refusal.number, refusal.value)
-        }
-    }
+// The length of the program, or the refusal by its number.
+pub fn answer(text: &str, table: &mut [Instruction]) -> Result<usize, Refusal> {
+    assemble(text, table).map_err(AssemblyError::refusal)
 }
 
-pub fn words(instruction: Instruction) -> (u32, u32) {
-    (instruction.first, instruction.second)
+pub fn refusal(number: u8, value: usize) -> Result<usize, Refusal> {
+    Err(Refusal { number, value })
+}
+
+// The tables of cases have an instruction by its two words.
+pub fn instruction(words: (u32, u32)) -> Instruction {
+    Instruction {
+        first: words.0,
+        second: words.1,
+    }
 }

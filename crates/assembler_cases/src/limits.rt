@@ -1,5 +1,6 @@
 // As many labels and instructions as there may be, and one more.
-use crate::case::{OLD, answer};
+use crate::case::{OLD, answer, instruction, refusal};
+use assembler::error::Refusal;
 use encoding::instruction::Instruction;
 use std::alloc::{AllocError, Global};
 use std::test::Fail;
@@ -8,12 +9,10 @@ use std::test::Fail;
 fn text_of(heap: Global, labels: u32, instructions: u32) -> Result<String, AllocError> {
     let mut text = String::from_str(heap, "; TinyRAM V=2.000 M=hv W=32 K=16\n")?;
     for n in 0..labels {
-        let line = format!(in heap; "_label{n}:\n")?;
-        text.push_str(line.as_str())?;
+        writeln!(text, "_label{n}:")?;
     }
     for n in 0..instructions {
-        let line = format!(in heap; "answer {n}\n")?;
-        text.push_str(line.as_str())?;
+        writeln!(text, "answer {n}")?;
     }
     Ok(text)
 }
@@ -37,23 +36,20 @@ fn assembled(
 
 #[derive(Drop)]
 struct Outcome {
-    answer: (u8, usize),
+    answer: Result<usize, Refusal>,
     first: Option<Instruction>,
     last: Option<Instruction>,
 }
 
 // `answer n`
 fn answering(n: u32) -> Option<Instruction> {
-    Some(Instruction {
-        first: 0xFC00_0000,
-        second: n,
-    })
+    Some(instruction((0xFC00_0000, n)))
 }
 
 #[test]
 fn labels_256(rt: HostRuntime) -> Result<(), Fail> {
     let outcome = assembled(rt.alloc(), 256, 1, 1)?;
-    assert_eq!(rt; outcome.answer, (0, 1));
+    assert_eq!(rt; outcome.answer, Ok(1));
     assert_eq!(rt; outcome.first, answering(0));
     Ok(())
 }
@@ -61,7 +57,7 @@ fn labels_256(rt: HostRuntime) -> Result<(), Fail> {
 #[test]
 fn labels_257(rt: HostRuntime) -> Result<(), Fail> {
     let outcome = assembled(rt.alloc(), 257, 1, 1)?;
-    assert_eq!(rt; outcome.answer, (13, 258));
+    assert_eq!(rt; outcome.answer, refusal(13, 258));
     assert_eq!(rt; outcome.first, Some(OLD));
     Ok(())
 }
@@ -69,11 +65,11 @@ fn labels_257(rt: HostRuntime) -> Result<(), Fail> {
 #[test]
 fn instructions_4096(rt: HostRuntime) -> Result<(), Fail> {
     let exact = assembled(rt.alloc(), 3, 4096, 4096)?;
-    assert_eq!(rt; exact.answer, (0, 4096));
+    assert_eq!(rt; exact.answer, Ok(4096));
     assert_eq!(rt; exact.first, answering(0));
     assert_eq!(rt; exact.last, answering(4095));
     let longer = assembled(rt.alloc(), 3, 4096, 4097)?;
-    assert_eq!(rt; longer.answer, (0, 4096));
+    assert_eq!(rt; longer.answer, Ok(4096));
     assert_eq!(rt; longer.last, Some(OLD));
     Ok(())
 }
@@ -81,7 +77,7 @@ fn instructions_4096(rt: HostRuntime) -> Result<(), Fail> {
 #[test]
 fn instructions_4097(rt: HostRuntime) -> Result<(), Fail> {
     let outcome = assembled(rt.alloc(), 0, 4097, 4097)?;
-    assert_eq!(rt; outcome.answer, (13, 4098));
+    assert_eq!(rt; outcome.answer, refusal(13, 4098));
     assert_eq!(rt; outcome.first, Some(OLD));
     assert_eq!(rt; outcome.last, Some(OLD));
     Ok(())
@@ -90,7 +86,7 @@ fn instructions_4097(rt: HostRuntime) -> Result<(), Fail> {
 #[test]
 fn table_of_4095(rt: HostRuntime) -> Result<(), Fail> {
     let outcome = assembled(rt.alloc(), 256, 4096, 4095)?;
-    assert_eq!(rt; outcome.answer, (14, 4096));
+    assert_eq!(rt; outcome.answer, refusal(14, 4096));
     assert_eq!(rt; outcome.first, Some(OLD));
     assert_eq!(rt; outcome.last, Some(OLD));
     Ok(())

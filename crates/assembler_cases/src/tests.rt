@@ -1,10 +1,9 @@
 // Single lines, whole texts, the printer and the preamble.
-use crate::case::{OLD, answer, words};
+use crate::case::{OLD, answer, instruction, refusal};
 use crate::{bad, good, programs, refused};
-use assembler::preamble::proper;
+use assembler::preamble::is_proper;
 use encoding::instruction::Instruction;
 use printer::listing::print_program;
-use std::process::Abort;
 use std::test::Fail;
 
 const PREAMBLE: &str = "; TinyRAM V=2.000 M=hv W=32 K=16
@@ -19,66 +18,65 @@ _done: store.w 2147483648, r0
 answer 0
 ";
 
-fn check_table(rt: &impl Abort, text: &str, table: &[Instruction; 4], after: [(u32, u32); 4]) {
-    for i in 0..4 {
-        assert_eq!(rt; words(table[i]), after[i], "{}", text);
-    }
-}
-
 #[test]
 fn good_lines(rt: HostRuntime) -> Result<(), Fail> {
-    for case in &good::CASES {
-        let (line, first, second) = *case;
+    for &(line, words) in &good::CASES {
         let text = format!(in rt.alloc(); "; TinyRAM V=2.000 M=hv W=32 K=16\n{line}")?;
         let mut table = [OLD; 2];
-        assert_eq!(rt; answer(text.as_str(), &mut table), (0, 1), "{}", line);
-        assert_eq!(rt; words(table[0]), (first, second), "{}", line);
-        assert_eq!(rt; words(table[1]), words(OLD), "{}", line);
+        assert_eq!(rt; answer(text.as_str(), &mut table), Ok(1), "{}", line);
+        assert_eq!(rt; table[0], instruction(words), "{}", line);
+        assert_eq!(rt; table[1], OLD, "{}", line);
     }
     Ok(())
 }
 
 #[test]
 fn bad_lines(rt: HostRuntime) -> Result<(), Fail> {
-    for case in &bad::CASES {
-        let line = *case;
+    for &line in &bad::CASES {
         let text = format!(in rt.alloc(); "; TinyRAM V=2.000 M=hv W=32 K=16\n{line}")?;
         let mut table = [OLD; 1];
-        assert_eq!(rt; answer(text.as_str(), &mut table), (10, 2), "{}", line);
-        assert_eq!(rt; words(table[0]), words(OLD), "{}", line);
+        assert_eq!(rt;
+            answer(text.as_str(), &mut table),
+            refusal(10, 2),
+            "{}",
+            line
+        );
+        assert_eq!(rt; table[0], OLD, "{}", line);
     }
     Ok(())
 }
 
 #[test]
 fn refused_texts(rt: HostRuntime) {
-    for case in &refused::CASES {
-        let (text, number, value) = *case;
+    for &(text, number, value) in &refused::CASES {
         let mut table = [OLD; 4];
-        assert_eq!(rt; answer(text, &mut table), (number, value), "{}", text);
-        check_table(&rt, text, &table, [words(OLD); 4]);
+        assert_eq!(rt;
+            answer(text, &mut table),
+            refusal(number, value),
+            "{}",
+            text
+        );
+        assert_eq!(rt; table, [OLD; 4], "{}", text);
     }
 }
 
 #[test]
 fn whole_programs(rt: HostRuntime) {
-    for case in &programs::CASES {
-        let (text, len, after) = *case;
+    for &(text, len, after) in &programs::CASES {
         let mut table = [OLD; 4];
-        assert_eq!(rt; answer(text, &mut table), (0, len), "{}", text);
-        check_table(&rt, text, &table, after);
+        assert_eq!(rt; answer(text, &mut table), Ok(len), "{}", text);
+        assert_eq!(rt; table, after.map(instruction), "{}", text);
     }
 }
 
 // What is printed of each good line's instruction assembles to it again.
 #[test]
 fn printed_lines(rt: HostRuntime) -> Result<(), Fail> {
-    for case in &good::CASES {
-        let (line, first, second) = *case;
-        let text = print_program(rt.alloc(), &[Instruction { first, second }])?;
+    for &(line, words) in &good::CASES {
+        let text = print_program(rt.alloc(), &[instruction(words)])?;
         let mut table = [OLD; 1];
-        assert_eq!(rt; answer(text.as_str(), &mut table), (0, 1), "{}", line);
-        assert_eq!(rt; words(table[0]), (first, second), "{}", line);
+        assert_eq!(rt; answer(text.as_str(), &mut table), Ok(1), "{}", line);
+        assert_eq!(rt; table[0], instruction(words), "{}", line);
     }
     Ok(())
 }
@@ -109,15 +107,15 @@ fn printed_texts(rt: HostRuntime) -> Result<(), Fail> {
 #[test]
 fn proper_programs(rt: HostRuntime) {
     let mut table = [OLD; 9];
-    assert_eq!(rt; answer(PREAMBLE, &mut table), (0, 9));
-    assert_eq!(rt; proper(&table), 1);
-    assert_eq!(rt; proper(&table[0..8]), 1);
-    assert_eq!(rt; proper(&table[0..7]), 0);
-    assert_eq!(rt; proper(&table[1..9]), 0);
-    assert_eq!(rt; proper(&[]), 0);
+    assert_eq!(rt; answer(PREAMBLE, &mut table), Ok(9));
+    assert!(rt; is_proper(&table));
+    assert!(rt; is_proper(&table[0..8]));
+    assert!(rt; !is_proper(&table[0..7]));
+    assert!(rt; !is_proper(&table[1..9]));
+    assert!(rt; !is_proper(&[]));
     table[3].second = 8;
-    assert_eq!(rt; proper(&table), 0);
+    assert!(rt; !is_proper(&table));
     table[3].second = 7;
     table[4].first = 0x2440_0000;
-    assert_eq!(rt; proper(&table), 0);
+    assert!(rt; !is_proper(&table));
 }

@@ -1,10 +1,10 @@
 -- Classes of bytes.
 --   belongs class b  the byte b is of the class
---   run p bs         how many bytes at the front of bs pass the test p
 --   front class bs   the longest front of bs whose bytes are of the class
 --   past class bs    what follows that front
 -- Assumes nothing.
-use Rattle.std.specs.Prelude.{ℕ, suc, Bool, cond, not, ◌&&◌, ◌||◌, List, [], ◌∷◌, take, drop, ◌==◌, nat_le}
+use Rattle.std.specs.Prelude.{ℕ, Bool, not, ◌&&◌, ◌||◌, List, drop, ◌==◌, nat_le}
+use Rattle.std.specs.List.{prefix_len, take_while}
 use Rattle.lexer.specs.declared.class.Class.{Class}
 use Rattle.lexer.specs.declared.class.Class.TheVariants.{Blank, Word, Name, Digit, Line}
 
@@ -18,12 +18,8 @@ belongs Name b = between 48 57 b || between 65 90 b || b == 95 || between 97 122
 belongs Digit b = between 48 57 b
 belongs Line b = not (b == 10 || b == 13)
 
-abbrev pub run : (ℕ → Bool) → List ℕ → ℕ
-run p [] = 0
-run p (b ∷ bs) = cond (p b) (suc (run p bs)) 0
-
 abbrev pub front : Class → List ℕ → List ℕ
-front class bs = take (run (belongs class) bs) bs
+front class bs = take_while (belongs class) bs
 
 abbrev pub past : Class → List ℕ → List ℕ
-past class bs = drop (run (belongs class) bs) bs
+past class bs = drop (prefix_len (belongs class) bs) bs

@@ -1,4 +1,5 @@
 -- The first token of what is left of a line.
+--   Kind             what a token is
 --   start_of c next  the kind of what starts with the byte c and goes on with next
 --   kind_in bs       the kind of the first token of bs
 --   text_in bs       its text, which a mark and an end have not
@@ -10,11 +11,19 @@
 use Rattle.std.specs.Prelude.{ℕ, ◌-◌, cond, ◌&&◌, ◌||◌, List, [], length, drop, Some, None, Option, ◌==◌, slice_index}
 use Rattle.std.specs.Borrow.{Bor}
 use Rattle.lexer.specs.declared.class.Class.TheVariants.{Blank, Word}
-use Rattle.lexer.specs.declared.token.Kind.{Kind}
-use Rattle.lexer.specs.declared.token.Kind.TheVariants.{Label, Mnemonic, Register, Integer, Colon, Comma, End, Unknown}
 use Rattle.lexer.specs.declared.token.Token.{Token}
 use Rattle.lexer.specs.declared.token.Token.TheVariants as token
 use Rattle.lexer.specs.Classes.{between, front, past}
+
+pub data Kind : Type 0 where
+  Label : Kind
+  Mnemonic : Kind
+  Register : Kind
+  Integer : Kind
+  Colon : Kind
+  Comma : Kind
+  End : Kind
+  Unknown : Kind
 
 pub record Seen : Type 0 where
   pub kind : Kind
@@ -76,6 +85,10 @@ rest_in bs = rest_of (kind_in bs) (past Blank bs)
 
 abbrev pub place_in : ℕ → List ℕ → ℕ
 place_in width bs = width - length (past Blank bs)
+
+-- of a text with no blank in front
+abbrev pub token_at : ℕ → List ℕ → Seen
+token_at place bs = record { kind = kind_of bs; text = text_of (kind_of bs) bs; place = place }
 
 abbrev pub token_in : ℕ → List ℕ → Seen
 token_in width bs = record { kind = kind_in bs; text = text_in bs; place = place_in width bs }

@@ -1,6 +1,7 @@
 // The longest front of a text whose characters are of one class.
 ghost use Rattle.std.specs.Prelude.{◌≡◌};
-ghost use Rattle.lexer.specs.Classes.{belongs, run, front, past};
+ghost use Rattle.std.specs.List.{prefix_len};
+ghost use Rattle.lexer.specs.Classes.{belongs, front, past};
 
 #[derive(Clone, Copy)]
 pub enum Class {
@@ -15,34 +16,33 @@ pub enum Class {
     Line,
 }
 
-pub(crate) fn is_of(class: Class, c: char) -> bool
-    ensures { result ≡ belongs class c }
-{
-    match class {
-        Class::Blank => matches!(c, ' ' | '\t'),
-        Class::Word => matches!(c, '-' | '.' | '0'..='9' | 'A'..='Z' | '_' | 'a'..='z'),
-        Class::Name => matches!(c, '0'..='9' | 'A'..='Z' | '_' | 'a'..='z'),
-        Class::Digit => matches!(c, '0'..='9'),
-        Class::Line => !matches!(c, '\n' | '\r'),
+impl Class {
+    fn has(self, b: u8) -> bool
+        ensures { result ≡ belongs self b }
+    {
+        match self {
+            Class::Blank => matches!(b, b' ' | b'\t'),
+            Class::Word =>
+                matches!(b, b'-' | b'.' | b'0'..=b'9' | b'A'..=b'Z' | b'_' | b'a'..=b'z'),
+            Class::Name => matches!(b, b'0'..=b'9' | b'A'..=b'Z' | b'_' | b'a'..=b'z'),
+            Class::Digit => b.is_ascii_digit(),
+            Class::Line => !matches!(b, b'\n' | b'\r'),
+        }
     }
 }
 
 // How many bytes at the front are of the class.
-fn run_of(bytes: &[u8], class: Class) -> usize
-    ensures { result ≡ run (belongs class) bytes.now }
+fn front_len(s: &str, class: Class) -> usize
+    ensures { result ≡ prefix_len (belongs class) s.now }
 {
-    for (i, b) in bytes.iter().enumerate() {
-        if !is_of(class, char::from(*b)) {
-            return i;
-        }
-    }
-    bytes.len()
+    s.as_bytes().iter().take_while(|b| class.has(**b)).count()
 }
 
 // The longest front of the class, and what follows it.
+#[tactic(auto, using(crate::proofs::Runs::boundary))]
 pub fn cut(s: &str, class: Class) -> (&str, &str)
     ensures front { result.0.now ≡ front class s.now }
     ensures rest { result.1.now ≡ past class s.now }
 {
-    s.split_at(run_of(s.as_bytes(), class))
+    s.split_at(front_len(s, class))
 }

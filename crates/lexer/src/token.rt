@@ -1,6 +1,6 @@
 // The words and marks of a line.
-ghost use Rattle.std.specs.Prelude.{◌≡◌, ◌<◌, drop, slice_index};
-ghost use Rattle.lexer.specs.Tokens.{shut, start_of, kind_of, seen, token_in, rest_in, after_mark};
+ghost use Rattle.std.specs.Prelude.{◌≡◌, ◌<◌, length};
+ghost use Rattle.lexer.specs.Tokens.{shut, seen, token_at, kind_of, rest_of, token_in, rest_in, after_mark};
 
 use crate::class::{Class, cut};
 
@@ -24,101 +24,61 @@ pub enum Token<'a> {
     Unknown(usize),
 }
 
-#[derive(Clone, Copy)]
-pub enum Kind {
-    Label,
-    Mnemonic,
-    Register,
-    Integer,
-    Colon,
-    Comma,
-    End,
-    Unknown,
+// What follows an ASCII character that stands at the very front.
+pub fn after_mark(s: &str, mark: char) -> Option<&str>
+    ensures { 0 < mark → mark < 128 → shut result ≡ after_mark mark s.now }
+{
+    s.strip_prefix(mark)
 }
 
-// What starts with `c` and goes on with `next`.
-fn kind_at(c: char, next: char) -> Kind
-    ensures { result ≡ start_of c next }
+// The first token of a text with no blank in front, and what follows it.
+fn first_token(s: &str, place: usize) -> (Token<'_>, &str)
+    ensures token { seen result.0 ≡ token_at place s.now }
+    ensures rest { result.1.now ≡ rest_of (kind_of s.now) s.now }
 {
-    match c {
-        ';' => Kind::End,
-        ':' => Kind::Colon,
-        ',' => Kind::Comma,
-        '_' => Kind::Label,
-        '-' | '0'..='9' => Kind::Integer,
-        'r' if matches!(next, '0'..='9') => Kind::Register,
-        'a'..='z' => Kind::Mnemonic,
-        _ => Kind::Unknown,
-    }
-}
-
-// The byte at `i` as a character, and NUL past the end.
-pub(crate) fn char_at(s: &str, i: usize) -> char
-    ensures { result ≡ slice_index s.now i }
-{
-    let bytes = s.as_bytes();
-    if i < bytes.len() {
-        char::from(bytes[i])
-    } else {
-        '\0'
-    }
-}
-
-fn kind_of(s: &str) -> Kind
-    ensures { result ≡ kind_of s.now }
-{
-    if s.is_empty() {
-        Kind::End
-    } else {
-        kind_at(char_at(s, 0), char_at(s, 1))
-    }
-}
-
-// What follows an ASCII character.
-pub(crate) fn skip(s: &str) -> &str
-    requires { (0 < slice_index s.now 0) × (slice_index s.now 0 < 128) }
-    ensures { result.now ≡ drop 1 s.now }
-{
-    &s[1..]
-}
-
-// What follows a colon that stands at the very front.
-pub fn after_colon(s: &str) -> Option<&str>
-    ensures { shut result ≡ after_mark 58 s.now }
-{
-    match char_at(s, 0) {
-        ':' => Some(skip(s)),
-        _ => None,
-    }
-}
-
-// What follows a minus that stands at the very front.
-pub fn after_minus(s: &str) -> Option<&str>
-    ensures { shut result ≡ after_mark 45 s.now }
-{
-    match char_at(s, 0) {
-        '-' => Some(skip(s)),
-        _ => None,
-    }
-}
-
-// The first token of what is left of a line, and what follows it. The line has `width` bytes.
-pub fn next_token<'a>(s: &'a str, width: usize) -> (Token<'a>, &'a str)
-    ensures token { seen result.0 ≡ token_in width s.now }
-    ensures rest { result.1.now ≡ rest_in s.now }
-{
-    let (_, start) = cut(s, Class::Blank);
-    let place = width.saturating_sub(start.len());
-    let (text, rest) = cut(start, Class::Word);
+    let (text, rest) = cut(s, Class::Word);
     let word = Word { text, place };
-    match kind_of(start) {
-        Kind::Label => (Token::Label(word), rest),
-        Kind::Mnemonic => (Token::Mnemonic(word), rest),
-        Kind::Register => (Token::Register(word), rest),
-        Kind::Integer => (Token::Integer(word), rest),
-        Kind::Colon => (Token::Colon(place), skip(start)),
-        Kind::Comma => (Token::Comma(place), skip(start)),
-        Kind::End => (Token::End(place), start),
-        Kind::Unknown => (Token::Unknown(place), start),
+    match s.as_bytes() {
+        [b'_', ..] => (Token::Label(word), rest),
+        [b'-' | b'0'..=b'9', ..] => (Token::Integer(word), rest),
+        [b'r', b'0'..=b'9', ..] => (Token::Register(word), rest),
+        [b'a'..=b'z', ..] => (Token::Mnemonic(word), rest),
+        [b':', ..] => (Token::Colon(place), &s[1..]),
+        [b',', ..] => (Token::Comma(place), &s[1..]),
+        [] | [b';', ..] => (Token::End(place), s),
+        _ => (Token::Unknown(place), s),
+    }
+}
+
+// What is left of a line that has `width` bytes.
+#[derive(Clone, Copy)]
+pub struct Cursor<'a> {
+    pub rest: &'a str,
+    pub width: usize,
+}
+
+impl<'a> Cursor<'a> {
+    // The whole line.
+    pub fn new(line: &'a str) -> Cursor<'a>
+        ensures rest { result.rest.now ≡ line.now }
+        ensures width { result.width ≡ length line.now }
+    {
+        Cursor {
+            rest: line,
+            width: line.len(),
+        }
+    }
+
+    // Takes the first token.
+    pub fn next_token(&mut self) -> Token<'a>
+        ensures token { seen result ≡ token_in self.old.width self.old.rest.now }
+        ensures rest { self.new.rest.now ≡ rest_in self.old.rest.now }
+        ensures width { self.new.width ≡ self.old.width }
+    {
+        let (_, start) = cut(self.rest, Class::Blank);
+        let place = self.width.saturating_sub(start.len());
+        let (token, rest) = first_token(start, place);
+        self.rest = rest;
+        token
     }
 }

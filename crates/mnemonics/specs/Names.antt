@@ -1,10 +1,10 @@
 -- The names of the 29 instructions.
 --   name_of m      the name of a mnemonic
---   among ms w     the mnemonic of the list ms whose name is w, if there is one
+--   mnemonics      the 29
 --   mnemonic_of w  the mnemonic whose name is w, if there is one
 -- Assumes nothing.
-use Rattle.std.specs.Prelude.{ℕ, cond, List, [], ◌∷◌, Some, None, codes, Option}
-use Rattle.std.specs.Option.{option_or}
+use Rattle.std.specs.Prelude.{ℕ, List, [], ◌∷◌, codes, Option}
+use Rattle.std.specs.List.{find}
 use Rattle.std.specs.Str.{bytes_eq}
 use Rattle.word.specs.declared.operator.Arithmetic.TheVariants.{And, Or, Xor, Add, Sub, Mull, Umulh, Smulh, Udiv, Umod, Shl, Shr}
 use Rattle.word.specs.declared.operator.Comparison.TheVariants.{Equal, Above, AboveOrEqual, Greater, GreaterOrEqual}
@@ -44,22 +44,13 @@ name_of (Load Word) = codes "load.w"
 name_of Read = codes "read"
 name_of Answer = codes "answer"
 
-abbrev pub computing : List Mnemonic
-computing =
+abbrev pub mnemonics : List Mnemonic
+mnemonics =
     Compute And ∷ Compute Or ∷ Compute Xor ∷ Compute Add ∷ Compute Sub ∷ Compute Mull
-    ∷ Compute Umulh ∷ Compute Smulh ∷ Compute Udiv ∷ Compute Umod ∷ Compute Shl ∷ Compute Shr ∷ []
-
-abbrev pub comparing : List Mnemonic
-comparing = Compare Equal ∷ Compare Above ∷ Compare AboveOrEqual ∷ Compare Greater ∷ Compare GreaterOrEqual ∷ []
-
-abbrev pub others : List Mnemonic
-others =
-    Not ∷ Move ∷ MoveIfFlag ∷ Jump Always ∷ Jump IfFlag ∷ Jump UnlessFlag
+    ∷ Compute Umulh ∷ Compute Smulh ∷ Compute Udiv ∷ Compute Umod ∷ Compute Shl ∷ Compute Shr
+    ∷ Compare Equal ∷ Compare Above ∷ Compare AboveOrEqual ∷ Compare Greater ∷ Compare GreaterOrEqual
+    ∷ Not ∷ Move ∷ MoveIfFlag ∷ Jump Always ∷ Jump IfFlag ∷ Jump UnlessFlag
     ∷ Store Byte ∷ Store Word ∷ Load Byte ∷ Load Word ∷ Read ∷ Answer ∷ []
 
-abbrev pub among : List Mnemonic → List ℕ → Option Mnemonic
-among [] w = None
-among (m ∷ ms) w = cond (bytes_eq w (name_of m)) (Some m) (among ms w)
-
 abbrev pub mnemonic_of : List ℕ → Option Mnemonic
-mnemonic_of w = option_or (option_or (among computing w) (among comparing w)) (among others w)
+mnemonic_of w = find (λ m. bytes_eq (name_of m) w) mnemonics

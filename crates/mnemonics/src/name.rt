@@ -1,72 +1,55 @@
 // The names of the 29 instructions.
 ghost use Rattle.std.specs.Prelude.{◌≡◌};
-ghost use Rattle.mnemonics.specs.Names.{name_of, computing, comparing, others, among, mnemonic_of};
+ghost use Rattle.mnemonics.specs.Names.{name_of, mnemonic_of};
 
 use encoding::mnemonic::Mnemonic;
 use encoding::operation::Condition;
 use word::cell::Size;
 use word::operator::{Arithmetic, Comparison};
 
-fn arithmetic(text: &str) -> Option<Mnemonic>
-    ensures { result ≡ among computing text.now }
-{
-    match text {
-        "and" => Some(Mnemonic::Compute(Arithmetic::And)),
-        "or" => Some(Mnemonic::Compute(Arithmetic::Or)),
-        "xor" => Some(Mnemonic::Compute(Arithmetic::Xor)),
-        "add" => Some(Mnemonic::Compute(Arithmetic::Add)),
-        "sub" => Some(Mnemonic::Compute(Arithmetic::Sub)),
-        "mull" => Some(Mnemonic::Compute(Arithmetic::Mull)),
-        "umulh" => Some(Mnemonic::Compute(Arithmetic::Umulh)),
-        "smulh" => Some(Mnemonic::Compute(Arithmetic::Smulh)),
-        "udiv" => Some(Mnemonic::Compute(Arithmetic::Udiv)),
-        "umod" => Some(Mnemonic::Compute(Arithmetic::Umod)),
-        "shl" => Some(Mnemonic::Compute(Arithmetic::Shl)),
-        "shr" => Some(Mnemonic::Compute(Arithmetic::Shr)),
-        _ => None,
-    }
-}
-
-fn comparison(text: &str) -> Option<Mnemonic>
-    ensures { result ≡ among comparing text.now }
-{
-    match text {
-        "cmpe" => Some(Mnemonic::Compare(Comparison::Equal)),
-        "cmpa" => Some(Mnemonic::Compare(Comparison::Above)),
-        "cmpae" => Some(Mnemonic::Compare(Comparison::AboveOrEqual)),
-        "cmpg" => Some(Mnemonic::Compare(Comparison::Greater)),
-        "cmpge" => Some(Mnemonic::Compare(Comparison::GreaterOrEqual)),
-        _ => None,
-    }
-}
-
-fn other(text: &str) -> Option<Mnemonic>
-    ensures { result ≡ among others text.now }
-{
-    match text {
-        "not" => Some(Mnemonic::Not),
-        "mov" => Some(Mnemonic::Move),
-        "cmov" => Some(Mnemonic::MoveIfFlag),
-        "jmp" => Some(Mnemonic::Jump(Condition::Always)),
-        "cjmp" => Some(Mnemonic::Jump(Condition::IfFlag)),
-        "cnjmp" => Some(Mnemonic::Jump(Condition::UnlessFlag)),
-        "store.b" => Some(Mnemonic::Store(Size::Byte)),
-        "store.w" => Some(Mnemonic::Store(Size::Word)),
-        "load.b" => Some(Mnemonic::Load(Size::Byte)),
-        "load.w" => Some(Mnemonic::Load(Size::Word)),
-        "read" => Some(Mnemonic::Read),
-        "answer" => Some(Mnemonic::Answer),
-        _ => None,
-    }
-}
+const MNEMONICS: [Mnemonic; 29] = [
+    Mnemonic::Compute(Arithmetic::And),
+    Mnemonic::Compute(Arithmetic::Or),
+    Mnemonic::Compute(Arithmetic::Xor),
+    Mnemonic::Compute(Arithmetic::Add),
+    Mnemonic::Compute(Arithmetic::Sub),
+    Mnemonic::Compute(Arithmetic::Mull),
+    Mnemonic::Compute(Arithmetic::Umulh),
+    Mnemonic::Compute(Arithmetic::Smulh),
+    Mnemonic::Compute(Arithmetic::Udiv),
+    Mnemonic::Compute(Arithmetic::Umod),
+    Mnemonic::Compute(Arithmetic::Shl),
+    Mnemonic::Compute(Arithmetic::Shr),
+    Mnemonic::Compare(Comparison::Equal),
+    Mnemonic::Compare(Comparison::Above),
+    Mnemonic::Compare(Comparison::AboveOrEqual),
+    Mnemonic::Compare(Comparison::Greater),
+    Mnemonic::Compare(Comparison::GreaterOrEqual),
+    Mnemonic::Not,
+    Mnemonic::Move,
+    Mnemonic::MoveIfFlag,
+    Mnemonic::Jump(Condition::Always),
+    Mnemonic::Jump(Condition::IfFlag),
+    Mnemonic::Jump(Condition::UnlessFlag),
+    Mnemonic::Store(Size::Byte),
+    Mnemonic::Store(Size::Word),
+    Mnemonic::Load(Size::Byte),
+    Mnemonic::Load(Size::Word),
+    Mnemonic::Read,
+    Mnemonic::Answer,
+];
 
 // The instruction of a name, if there is one.
 pub fn mnemonic_of(text: &str) -> Option<Mnemonic>
     ensures { result ≡ mnemonic_of text.now }
 {
-    arithmetic(text).or(comparison(text)).or(other(text))
+    MNEMONICS
+        .iter()
+        .copied()
+        .find(|mnemonic| name_of(*mnemonic) == text)
 }
 
+// A function, and no `Display`: that is refused for another crate's enum, and crate `encoding` knows no text.
 pub fn name_of(mnemonic: Mnemonic) -> &'static str
     ensures { result.now ≡ name_of mnemonic }
 {

@@ -6,16 +6,15 @@
 --   register_in w bs  the same where a register is wanted
 --   comma_in bs       what follows a comma
 --   ended bs          nothing follows but blanks and a comment
+--   left view r line  what a call answers, with what it leaves of the line
 --   and_then r f      what f makes of the value of r
 -- Assumes nothing.
 use Rattle.std.specs.Prelude.{ℕ, Bool, true, false, cond, ◌&&◌, List, length, Some, None, Option, ◌==◌, nat_lt}
-use Rattle.std.specs.Borrow.{Bor}
 use Rattle.std.specs.Option.{option_map}
 use Rattle.lexer.specs.declared.class.Class.TheVariants.{Name}
-use Rattle.lexer.specs.declared.token.Kind.{Kind}
-use Rattle.lexer.specs.declared.token.Kind.TheVariants.{Label, Mnemonic, Register, Integer, Colon, Comma, End, Unknown}
 use Rattle.lexer.specs.Classes.{past}
-use Rattle.lexer.specs.Tokens.{Seen, kind_in, rest_in, token_in}
+use Rattle.lexer.specs.declared.token.Cursor.{Cursor}
+use Rattle.lexer.specs.Tokens.{Kind, Label, Mnemonic, Register, Integer, Colon, Comma, End, Unknown, Seen, kind_in, rest_in, token_in}
 use Rattle.parser.specs.declared.operand.Argument.{Argument}
 use Rattle.parser.specs.declared.operand.Argument.TheVariants as argument
 use Rattle.parser.specs.Numbers.{register_of, integer_of}
@@ -29,6 +28,9 @@ abbrev pub view_argument : Argument → ArgumentView
 view_argument (argument.Register n) = register n
 view_argument (argument.Integer n) = integer n
 view_argument (argument.Label w) = named w.text.now w.place
+
+abbrev pub left : {A B : Type 0} → (A → B) → Option A → Cursor → Option (B × List ℕ)
+left view r line = option_map (λ x. (view x, line.rest.now)) r
 
 abbrev pub and_then : {A B : Type 0} → Option A → (A → Option B) → Option B
 and_then (Some x) f = f x
@@ -76,14 +78,8 @@ is_end Unknown = false
 abbrev pub ended : List ℕ → Bool
 ended bs = is_end (kind_in bs)
 
-abbrev pub view_operand : Argument × Bor (List ℕ) → ArgumentView × List ℕ
-view_operand x = (view_argument x.0, x.1.now)
-
 abbrev pub operand_in : ℕ → List ℕ → Option (ArgumentView × List ℕ)
 operand_in width bs = option_map (λ a. (a, rest_in bs)) (argument_of (token_in width bs))
-
-abbrev pub view_register : ℕ × Bor (List ℕ) → ℕ × List ℕ
-view_register x = (x.0, x.1.now)
 
 abbrev pub on_register : ArgumentView → List ℕ → Option (ℕ × List ℕ)
 on_register (register n) rest = Some (n, rest)

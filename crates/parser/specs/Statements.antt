@@ -6,14 +6,12 @@
 --   line_in bs          the line bs, if it can be read
 -- Here bs is the end of a line of w bytes. Assumes nothing.
 use Rattle.std.specs.Prelude.{ℕ, cond, List, length, Some, None, Option}
-use Rattle.std.specs.Borrow.{Bor}
 use Rattle.std.specs.Option.{option_map}
 use Rattle.encoding.specs.declared.mnemonic.Mnemonic as encoding
 use Rattle.encoding.specs.declared.mnemonic.Mnemonic.TheVariants as M
-use Rattle.lexer.specs.declared.token.Kind.{Kind}
-use Rattle.lexer.specs.declared.token.Kind.TheVariants.{Label, Mnemonic, Register, Integer, Colon, Comma, End, Unknown}
 use Rattle.lexer.specs.declared.token.Word.{Word}
-use Rattle.lexer.specs.Tokens.{kind_in, text_in, rest_in, place_in, after_mark}
+use Rattle.lexer.specs.Tokens.{Kind, Label, Mnemonic, Register, Integer, Colon, Comma, End, Unknown, kind_in, text_in, rest_in, place_in, after_mark}
+use Rattle.parser.specs.declared.operand.Argument.{Argument}
 use Rattle.parser.specs.declared.statement.Statement.{Statement}
 use Rattle.parser.specs.declared.statement.Line.{Line}
 use Rattle.mnemonics.specs.Names.{mnemonic_of}
@@ -37,8 +35,9 @@ abbrev pub view_statement : Statement → StatementView
 view_statement s =
     record { mnemonic = s.mnemonic; destination = s.destination; source = s.source; operand = view_argument s.operand }
 
-abbrev pub view_read : Statement × Bor (List ℕ) → StatementView × List ℕ
-view_read x = (view_statement x.0, x.1.now)
+-- a register and an operand
+abbrev pub view_pair : ℕ × Argument → ℕ × ArgumentView
+view_pair x = (x.0, view_argument x.1)
 
 abbrev pub view_label : Word → LabelView
 view_label w = record { text = w.text.now; place = w.place }
@@ -50,25 +49,32 @@ view_line l = record { label = option_map view_label l.label; statement = option
 abbrev pub stated : encoding.Mnemonic → ℕ → ℕ → ArgumentView × List ℕ → StatementView × List ℕ
 stated m i j x = (record { mnemonic = m; destination = i; source = j; operand = x.0 }, x.1)
 
+-- ri, A
+abbrev pub pair_in : ℕ → List ℕ → Option ((ℕ × ArgumentView) × List ℕ)
+pair_in width bs =
+    and_then (register_in width bs) (λ i. and_then (comma_in i.1) (λ cs. option_map (λ a. ((i.0, a.0), a.1)) (operand_in width cs)))
+
+-- A, ri
+abbrev pub reversed_in : ℕ → List ℕ → Option ((ℕ × ArgumentView) × List ℕ)
+reversed_in width bs =
+    and_then (operand_in width bs) (λ a. and_then (comma_in a.1) (λ cs. option_map (λ i. ((i.0, a.0), i.1)) (register_in width cs)))
+
 -- ri, rj, A
 abbrev pub three_in : encoding.Mnemonic → ℕ → List ℕ → Option (StatementView × List ℕ)
 three_in m width bs =
-    and_then (register_in width bs) (λ i. and_then (comma_in i.1) (λ cs. and_then (register_in width cs) (λ j. and_then (comma_in j.1) (λ ds. option_map (stated m i.0 j.0) (operand_in width ds)))))
+    and_then (register_in width bs) (λ i. and_then (comma_in i.1) (λ cs. option_map (λ x. stated m i.0 x.0.0 (x.0.1, x.1)) (pair_in width cs)))
 
 -- ri, A, where ri is the source
 abbrev pub compare_in : encoding.Mnemonic → ℕ → List ℕ → Option (StatementView × List ℕ)
-compare_in m width bs =
-    and_then (register_in width bs) (λ j. and_then (comma_in j.1) (λ cs. option_map (stated m 0 j.0) (operand_in width cs)))
+compare_in m width bs = option_map (λ x. stated m 0 x.0.0 (x.0.1, x.1)) (pair_in width bs)
 
 -- ri, A, where ri is the destination
 abbrev pub two_in : encoding.Mnemonic → ℕ → List ℕ → Option (StatementView × List ℕ)
-two_in m width bs =
-    and_then (register_in width bs) (λ i. and_then (comma_in i.1) (λ cs. option_map (stated m i.0 0) (operand_in width cs)))
+two_in m width bs = option_map (λ x. stated m x.0.0 0 (x.0.1, x.1)) (pair_in width bs)
 
 -- A, ri
 abbrev pub store_in : encoding.Mnemonic → ℕ → List ℕ → Option (StatementView × List ℕ)
-store_in m width bs =
-    and_then (operand_in width bs) (λ a. and_then (comma_in a.1) (λ cs. option_map (λ i. stated m i.0 0 (a.0, i.1)) (register_in width cs)))
+store_in m width bs = option_map (λ x. stated m x.0.0 0 (x.0.1, x.1)) (reversed_in width bs)
 
 -- A
 abbrev pub one_in : encoding.Mnemonic → ℕ → List ℕ → Option (StatementView × List ℕ)

@@ -3,24 +3,16 @@ ghost use Rattle.std.specs.Prelude.{◌≡◌};
 ghost use Rattle.parser.specs.Numbers.{register_of, numeral, digits_of, integer_of};
 
 use lexer::class::{Class, cut};
-use lexer::token::after_minus;
+use lexer::token::after_mark;
 
 // `r0` to `r15`.
 pub(crate) fn register_of(text: &str) -> Option<u8>
     ensures { result ≡ register_of text.now }
 {
-    let bytes = text.as_bytes();
-    if bytes.len() == 2 && bytes[0] == b'r' && b'0' <= bytes[1] && bytes[1] <= b'9' {
-        Some(bytes[1] - b'0')
-    } else if bytes.len() == 3
-        && bytes[0] == b'r'
-        && bytes[1] == b'1'
-        && b'0' <= bytes[2]
-        && bytes[2] <= b'5'
-    {
-        Some(10 + (bytes[2] - b'0'))
-    } else {
-        None
+    match text.as_bytes() {
+        [b'r', digit @ b'0'..=b'9'] => Some(*digit - b'0'),
+        [b'r', b'1', digit @ b'0'..=b'5'] => Some(10 + (*digit - b'0')),
+        _ => None,
     }
 }
 
@@ -29,31 +21,27 @@ fn is_numeral(text: &str) -> bool
     ensures { result ≡ numeral text.now }
 {
     let (_, rest) = cut(text, Class::Digit);
-    1 <= text.len() && text.len() <= 10 && rest.is_empty()
+    matches!(text.len(), 1..=10) && rest.is_empty()
 }
 
 // The value modulo 2^32 of 1 to 10 digits.
+#[tactic(auto, using(crate::proofs::Digits::parsed))]
 fn digits_of(text: &str) -> Option<u32>
     ensures { result ≡ digits_of text.now }
 {
     if !is_numeral(text) {
         return None;
     }
-    match text.parse::<u64>() {
-        Ok(n) => Some((n % 0x1_0000_0000) as u32),
-        Err(_) => None,
-    }
+    let number = text.parse::<u64>().ok()?;
+    Some((number % 0x1_0000_0000) as u32)
 }
 
 // The value modulo 2^32 of 1 to 10 digits after an optional minus.
 pub(crate) fn integer_of(text: &str) -> Option<u32>
     ensures { result ≡ integer_of text.now }
 {
-    match after_minus(text) {
-        Some(digits) => match digits_of(digits) {
-            Some(n) => Some(n.wrapping_neg()),
-            None => None,
-        },
+    match after_mark(text, '-') {
+        Some(digits) => digits_of(digits).map(u32::wrapping_neg),
         None => digits_of(text),
     }
 }

@@ -1,12 +1,12 @@
 // The operands of an instruction.
 ghost use Rattle.std.specs.Prelude.{◌≡◌};
 ghost use Rattle.std.specs.Option.{option_map};
-ghost use Rattle.lexer.specs.Tokens.{seen, shut};
-ghost use Rattle.parser.specs.Operands.{view_argument, label, argument_of, comma_in, ended, view_operand, view_register, operand_in, register_in};
+ghost use Rattle.lexer.specs.Tokens.{seen};
+ghost use Rattle.parser.specs.Operands.{view_argument, label, argument_of, left, comma_in, ended, operand_in, register_in};
 
 use crate::number::{integer_of, register_of};
 use lexer::class::{Class, cut};
-use lexer::token::{Token, Word, next_token};
+use lexer::token::{Cursor, Token, Word};
 
 // An operand as it is written: `A` may be any of these, the other operands are registers.
 #[derive(Clone, Copy)]
@@ -24,58 +24,47 @@ pub(crate) fn is_label(text: &str) -> bool
     text.len() > 1 && rest.is_empty()
 }
 
-fn argument_of<'a>(token: Token<'a>) -> Option<Argument<'a>>
+fn argument_of(token: Token<'_>) -> Option<Argument<'_>>
     ensures { option_map view_argument result ≡ argument_of (seen token.entry) }
 {
     match token {
-        Token::Register(word) => match register_of(word.text) {
-            Some(n) => Some(Argument::Register(n)),
-            None => None,
-        },
-        Token::Integer(word) => match integer_of(word.text) {
-            Some(n) => Some(Argument::Integer(n)),
-            None => None,
-        },
+        Token::Register(word) => Some(Argument::Register(register_of(word.text)?)),
+        Token::Integer(word) => Some(Argument::Integer(integer_of(word.text)?)),
         Token::Label(word) if is_label(word.text) => Some(Argument::Label(word)),
         _ => None,
     }
 }
 
-// What follows a comma.
-pub(crate) fn read_comma<'a>(s: &'a str, width: usize) -> Option<&'a str>
-    ensures { shut result ≡ comma_in s.now }
+// Takes a comma.
+pub(crate) fn read_comma(line: &mut Cursor<'_>) -> Option<()>
+    ensures rest { option_map (λ _. line.new.rest.now) result ≡ comma_in line.old.rest.now }
+    ensures width { line.new.width ≡ line.old.width }
 {
-    match next_token(s, width) {
-        (Token::Comma(_), rest) => Some(rest),
-        _ => None,
-    }
+    matches!(line.next_token(), Token::Comma(_)).then_some(())
 }
 
 // Whether nothing follows but blanks and a comment.
-pub(crate) fn is_end(s: &str, width: usize) -> bool
-    ensures { result ≡ ended s.now }
+pub(crate) fn is_end(mut line: Cursor<'_>) -> bool
+    ensures { result ≡ ended line.entry.rest.now }
 {
-    match next_token(s, width) {
-        (Token::End(_), _) => true,
-        _ => false,
-    }
+    matches!(line.next_token(), Token::End(_))
 }
 
-// `A`, and what follows it.
-pub(crate) fn read_operand<'a>(s: &'a str, width: usize) -> Option<(Argument<'a>, &'a str)>
-    ensures { option_map view_operand result ≡ operand_in width s.now }
+// Takes `A`.
+pub(crate) fn read_operand<'a>(line: &mut Cursor<'a>) -> Option<Argument<'a>>
+    ensures value { left view_argument result line.new ≡ operand_in line.old.width line.old.rest.now }
+    ensures width { line.new.width ≡ line.old.width }
 {
-    let (token, rest) = next_token(s, width);
-    let argument = argument_of(token)?;
-    Some((argument, rest))
+    argument_of(line.next_token())
 }
 
-// A register's number, and what follows it.
-pub(crate) fn read_register<'a>(s: &'a str, width: usize) -> Option<(u8, &'a str)>
-    ensures { option_map view_register result ≡ register_in width s.now }
+// Takes a register, and answers its number.
+pub(crate) fn read_register(line: &mut Cursor<'_>) -> Option<u8>
+    ensures value { left (λ n. n) result line.new ≡ register_in line.old.width line.old.rest.now }
+    ensures width { line.new.width ≡ line.old.width }
 {
-    match read_operand(s, width)? {
-        (Argument::Register(n), rest) => Some((n, rest)),
+    match read_operand(line)? {
+        Argument::Register(n) => Some(n),
         _ => None,
     }
 }

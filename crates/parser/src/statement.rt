@@ -1,14 +1,15 @@
 // A line: a label, an instruction and a comment, each optional.
 ghost use Rattle.std.specs.Prelude.{◌≡◌};
 ghost use Rattle.std.specs.Option.{option_map};
-ghost use Rattle.parser.specs.Statements.{view_statement, view_read, view_line, three_in, compare_in, two_in, store_in, one_in, operands_in, statement_in, line_in};
+ghost use Rattle.parser.specs.Operands.{left};
+ghost use Rattle.parser.specs.Statements.{view_pair, pair_in, reversed_in, view_statement, view_line, operands_in, statement_in, line_in};
 
 use crate::operand::{Argument, is_end, is_label, read_comma, read_operand, read_register};
 use encoding::mnemonic::Mnemonic;
-use lexer::token::{Token, Word, after_colon, next_token};
+use lexer::token::{Cursor, Token, Word, after_mark};
 use mnemonics::name::mnemonic_of;
 
-// An instruction as it is written; a register that it does not have is 0.
+// An instruction as it is written. A register that it does not have is 0, as in its encoding.
 #[derive(Clone, Copy)]
 pub struct Statement<'a> {
     pub mnemonic: Mnemonic,
@@ -23,148 +24,99 @@ pub struct Line<'a> {
     pub statement: Option<Statement<'a>>,
 }
 
-// `ri, rj, A`
-fn read_three<'a>(mnemonic: Mnemonic, s: &'a str, width: usize) -> Option<(Statement<'a>, &'a str)>
-    ensures { option_map view_read result ≡ three_in mnemonic width s.now }
+// Takes `ri, A`.
+fn read_pair<'a>(line: &mut Cursor<'a>) -> Option<(u8, Argument<'a>)>
+    ensures value { left view_pair result line.new ≡ pair_in line.old.width line.old.rest.now }
+    ensures width { line.new.width ≡ line.old.width }
 {
-    let (destination, s) = read_register(s, width)?;
-    let s = read_comma(s, width)?;
-    let (source, s) = read_register(s, width)?;
-    let s = read_comma(s, width)?;
-    let (operand, s) = read_operand(s, width)?;
-    let statement = Statement {
-        mnemonic,
-        destination,
-        source,
-        operand,
-    };
-    Some((statement, s))
+    let register = read_register(line)?;
+    read_comma(line)?;
+    let operand = read_operand(line)?;
+    Some((register, operand))
 }
 
-// `ri, A`, where ri is compared
-fn read_compare<'a>(
-    mnemonic: Mnemonic,
-    s: &'a str,
-    width: usize,
-) -> Option<(Statement<'a>, &'a str)>
-    ensures { option_map view_read result ≡ compare_in mnemonic width s.now }
+// Takes `A, ri`.
+fn read_reversed<'a>(line: &mut Cursor<'a>) -> Option<(u8, Argument<'a>)>
+    ensures value { left view_pair result line.new ≡ reversed_in line.old.width line.old.rest.now }
+    ensures width { line.new.width ≡ line.old.width }
 {
-    let (source, s) = read_register(s, width)?;
-    let s = read_comma(s, width)?;
-    let (operand, s) = read_operand(s, width)?;
-    let statement = Statement {
-        mnemonic,
-        destination: 0,
-        source,
-        operand,
-    };
-    Some((statement, s))
+    let operand = read_operand(line)?;
+    read_comma(line)?;
+    let register = read_register(line)?;
+    Some((register, operand))
 }
 
-// `ri, A`, where ri is written
-fn read_two<'a>(mnemonic: Mnemonic, s: &'a str, width: usize) -> Option<(Statement<'a>, &'a str)>
-    ensures { option_map view_read result ≡ two_in mnemonic width s.now }
+// Takes the operands of an instruction.
+fn read_operands<'a>(mnemonic: Mnemonic, line: &mut Cursor<'a>) -> Option<Statement<'a>>
+    ensures { left view_statement result line.new ≡ operands_in mnemonic line.old.width line.old.rest.now }
 {
-    let (destination, s) = read_register(s, width)?;
-    let s = read_comma(s, width)?;
-    let (operand, s) = read_operand(s, width)?;
-    let statement = Statement {
-        mnemonic,
-        destination,
-        source: 0,
-        operand,
-    };
-    Some((statement, s))
-}
-
-// `A, ri`, where ri is stored
-fn read_store<'a>(mnemonic: Mnemonic, s: &'a str, width: usize) -> Option<(Statement<'a>, &'a str)>
-    ensures { option_map view_read result ≡ store_in mnemonic width s.now }
-{
-    let (operand, s) = read_operand(s, width)?;
-    let s = read_comma(s, width)?;
-    let (destination, s) = read_register(s, width)?;
-    let statement = Statement {
-        mnemonic,
-        destination,
-        source: 0,
-        operand,
-    };
-    Some((statement, s))
-}
-
-// `A`
-fn read_one<'a>(mnemonic: Mnemonic, s: &'a str, width: usize) -> Option<(Statement<'a>, &'a str)>
-    ensures { option_map view_read result ≡ one_in mnemonic width s.now }
-{
-    let (operand, s) = read_operand(s, width)?;
-    let statement = Statement {
-        mnemonic,
-        destination: 0,
-        source: 0,
-        operand,
-    };
-    Some((statement, s))
-}
-
-fn read_operands<'a>(
-    mnemonic: Mnemonic,
-    s: &'a str,
-    width: usize,
-) -> Option<(Statement<'a>, &'a str)>
-    ensures { option_map view_read result ≡ operands_in mnemonic width s.now }
-{
-    match mnemonic {
-        Mnemonic::Compute(_) => read_three(mnemonic, s, width),
-        Mnemonic::Compare(_) => read_compare(mnemonic, s, width),
-        Mnemonic::Store(_) => read_store(mnemonic, s, width),
-        Mnemonic::Jump(_) | Mnemonic::Answer => read_one(mnemonic, s, width),
+    let (destination, source, operand) = match mnemonic {
+        Mnemonic::Compute(_) => {
+            let destination = read_register(line)?;
+            read_comma(line)?;
+            let (source, operand) = read_pair(line)?;
+            (destination, source, operand)
+        }
+        Mnemonic::Compare(_) => {
+            let (source, operand) = read_pair(line)?;
+            (0, source, operand)
+        }
+        Mnemonic::Store(_) => {
+            let (destination, operand) = read_reversed(line)?;
+            (destination, 0, operand)
+        }
+        Mnemonic::Jump(_) | Mnemonic::Answer => (0, 0, read_operand(line)?),
         Mnemonic::Not
         | Mnemonic::Move
         | Mnemonic::MoveIfFlag
         | Mnemonic::Load(_)
-        | Mnemonic::Read => read_two(mnemonic, s, width),
-    }
+        | Mnemonic::Read => {
+            let (destination, operand) = read_pair(line)?;
+            (destination, 0, operand)
+        }
+    };
+    Some(Statement {
+        mnemonic,
+        destination,
+        source,
+        operand,
+    })
 }
 
 // An instruction or none, up to the end of the line.
-fn read_statement<'a>(s: &'a str, width: usize) -> Option<Option<Statement<'a>>>
-    ensures { option_map (option_map view_statement) result ≡ statement_in width s.now }
+fn read_statement(mut line: Cursor<'_>) -> Option<Option<Statement<'_>>>
+    ensures { option_map (option_map view_statement) result ≡ statement_in line.entry.width line.entry.rest.now }
 {
-    match next_token(s, width) {
-        (Token::End(_), _) => Some(None),
-        (Token::Mnemonic(word), rest) => {
+    match line.next_token() {
+        Token::End(_) => Some(None),
+        Token::Mnemonic(word) => {
             let mnemonic = mnemonic_of(word.text)?;
-            let (statement, rest) = read_operands(mnemonic, rest, width)?;
-            if is_end(rest, width) {
-                Some(Some(statement))
-            } else {
-                None
-            }
+            let statement = read_operands(mnemonic, &mut line)?;
+            is_end(line).then_some(Some(statement))
         }
         _ => None,
     }
 }
 
 // A line, or `None` where it cannot be read.
-pub fn read_line<'a>(line: &'a str) -> Option<Line<'a>>
+pub fn read_line(line: &str) -> Option<Line<'_>>
     ensures { option_map view_line result ≡ line_in line.now }
 {
-    let width = line.len();
-    match next_token(line, width) {
-        (Token::Label(word), rest) => {
+    let mut cursor = Cursor::new(line);
+    match cursor.next_token() {
+        Token::Label(word) => {
             if !is_label(word.text) {
                 return None;
             }
-            let rest = after_colon(rest)?;
-            let statement = read_statement(rest, width)?;
+            let rest = after_mark(cursor.rest, ':')?;
+            let statement = read_statement(Cursor { rest, ..cursor })?;
             Some(Line {
                 label: Some(word),
                 statement,
             })
         }
         _ => {
-            let statement = read_statement(line, width)?;
+            let statement = read_statement(Cursor::new(line))?;
             Some(Line {
                 label: None,
                 statement,

@@ -1,5 +1,8 @@
 -- A printed program assembles to itself. Assumes nothing.
-use Rattle.std.proofs.Common.{◌≡◌, ℕ, zero, suc, ◌+◌, ◌^◌, ◌<◌, ◌≤◌, true, false, cond, eqb, ltb, List, [], ◌∷◌, ◌++◌, map, length, get_or, drop, is_some, Some, None, Ok, Err, Option, Result, unwrap_or, sym, refl, ap, ◌∙◌, append_assoc, add-one, arith}
+use Rattle.std.proofs.Common.{◌≡◌, ℕ, ◌+◌, ◌^◌, ◌<◌, ◌≤◌, true, false, cond, eqb, ltb, List, [], ◌∷◌, ◌++◌, map, length, get_or, take, is_some, Some, None, Ok, Err, Option, Result, unwrap_or, sym, refl, ap, ◌∙◌, append_assoc, arith}
+use Rattle.std.proofs.lemmas.List.{take_more, flat_map_more}
+use Rattle.std.proofs.lemmas.Bool.{and_parts}
+use Rattle.std.specs.List.{list_all}
 use Rattle.std.proofs.lemmas.Bool.Decides.{nat_tests}
 use Rattle.encoding.specs.declared.instruction.Instruction as encoding
 use Rattle.encoding.specs.Encoding.{decoded, encoded, meant}
@@ -10,7 +13,6 @@ use Rattle.lexer.specs.declared.class.Class.TheVariants.{Line}
 use Rattle.lexer.specs.Classes.{belongs}
 use Rattle.lexer.specs.Lines.{lines, onto, past_end, other_lines}
 use Rattle.assembler.specs.declared.error.AssemblyError.{AssemblyError}
-use Rattle.assembler.specs.declared.resolve.Given.TheVariants.{Instruction}
 use Rattle.assembler.specs.Labels.{Known}
 use Rattle.assembler.specs.Scan.{onwards, stepped_by, stepped, scanned}
 use Rattle.assembler.specs.Resolve.{given, read_gives, line_gives}
@@ -18,9 +20,9 @@ use Rattle.assembler.specs.Program.{listed, program, entries, checked}
 use Rattle.assembler.specs.Text.{header, body}
 use Rattle.assembler.specs.declared.error.AssemblyError.TheVariants.{Header}
 use Rattle.std.specs.Str.{bytes_eq}
-use Rattle.printer.specs.Listing.{operation_text, line_text, listing}
+use Rattle.printer.specs.Listing.{operation_text, line_text, listing, printed}
 use Rattle.printer.specs.Back.{Printable, PrintedAssembles}
-use Rattle.printer.proofs.Fronts.{every, and_left, and_right, front_append, past_append}
+use Rattle.printer.proofs.Fronts.{front_append, past_append}
 use Rattle.printer.proofs.Lines.{line_of_lem, encoded_of, plain_of}
 
 -- ONE INSTRUCTION
@@ -36,13 +38,13 @@ module _ (n : encoding.Instruction) (f : well_formed n ≡ true) (s : n.second <
   says : encoded (meant n) ≡ Some n
   says = decoded_only n (meant n) (value_of (decoded n) _ (formed_is n ∙ f))
 
-  line_plain : every (belongs Line) (line_of n) ≡ true
+  line_plain : list_all (belongs Line) (line_of n) ≡ true
   line_plain = plain_of (meant n) n says s
 
   line_steps : (k : Known) (at : ℕ) → ltb k.count 4096 ≡ true → stepped k at (line_of n) ≡ Ok (record { labels = k.labels; count = k.count + 1 })
   line_steps k at room = ap (stepped_by k at) (line_of_lem (meant n) n says s) ∙ (rw room refl)
 
-  line_gives_lem : line_gives [] (line_of n) ≡ Instruction n
+  line_gives_lem : line_gives [] (line_of n) ≡ Ok (Some n)
   line_gives_lem = ap (read_gives []) (line_of_lem (meant n) n says s) ∙ ap given (encoded_of (meant n) ∙ says)
 
 -- THE LINES
@@ -53,10 +55,10 @@ line_first b ls bs h e =
     let q : eqb b 13 ≡ false = grind (arith, nat_tests) in
     rw (p, q, e) refl
 
-lines_line : (l rest : List ℕ) → every (belongs Line) l ≡ true → lines (l ++ (10 ∷ rest)) ≡ l ∷ lines rest
+lines_line : (l rest : List ℕ) → list_all (belongs Line) l ≡ true → lines (l ++ (10 ∷ rest)) ≡ l ∷ lines rest
 lines_line [] rest h = refl
 lines_line (b ∷ l) rest h =
-    line_first b (l ∷ lines rest) (l ++ (10 ∷ rest)) (and_left (belongs Line b) (every (belongs Line) l) h) (lines_line l rest (and_right (belongs Line b) (every (belongs Line) l) h))
+    line_first b (l ∷ lines rest) (l ++ (10 ∷ rest)) ((and_parts (belongs Line b) (list_all (belongs Line) l) h).0) (lines_line l rest ((and_parts (belongs Line b) (list_all (belongs Line) l) h).1))
 
 listing_more : (n : encoding.Instruction) (p : List encoding.Instruction) → listing (n ∷ p) ≡ line_of n ++ (10 ∷ listing p)
 listing_more n p = append_assoc (line_of n) (10 ∷ []) (listing p)
@@ -96,7 +98,7 @@ body_all p l h =
 abbrev on_header : List ℕ → List (List ℕ) → Result (List encoding.Instruction) AssemblyError
 on_header first ls = cond (bytes_eq first header) (body ls) (Err Header)
 
-header_plain : every (belongs Line) header ≡ true
+header_plain : list_all (belongs Line) header ≡ true
 header_plain = refl
 
 pub printed_assembles : PrintedAssembles
@@ -108,24 +110,6 @@ printed_assembles p l h =
 
 -- THE LOOP OF THE PRINTER
 
-listing_step : (p : List encoding.Instruction) (i : ℕ) (d : encoding.Instruction) → i < length p → listing (drop i p) ≡ line_text (get_or p i d) ++ listing (drop (suc i) p)
-listing_step [] i d h = absurd (omega arith)
-listing_step (n ∷ p) zero d h = refl
-listing_step (n ∷ p) (suc i) d h = listing_step p i d (omega arith)
-
-pub listing_turn : (p : List encoding.Instruction) (i : ℕ) (d : encoding.Instruction) (s t whole : List ℕ) → i < length p → s ++ listing (drop i p) ≡ whole → t ≡ s ++ line_text (get_or p i d) → t ++ listing (drop (i + 1) p) ≡ whole
-listing_turn p i d s t whole h inv e =
-    rw (e, add-one) (append_assoc s (line_text (get_or p i d)) (listing (drop (suc i) p)) ∙ (ap (λ q. s ++ q) (sym (listing_step p i d h)) ∙ inv))
-
-drop_past : (p : List encoding.Instruction) (i : ℕ) → length p ≤ i → drop i p ≡ []
-drop_past [] zero h = refl
-drop_past [] (suc i) h = refl
-drop_past (n ∷ p) zero h = absurd (omega arith)
-drop_past (n ∷ p) (suc i) h = drop_past p i (omega arith)
-
-nil_right : (s : List ℕ) → s ++ [] ≡ s
-nil_right [] = refl
-nil_right (b ∷ s) = ap (λ t. b ∷ t) (nil_right s)
-
-pub listing_end : (p : List encoding.Instruction) (i : ℕ) (s whole : List ℕ) → length p ≤ i → s ++ listing (drop i p) ≡ whole → s ≡ whole
-listing_end p i s whole h inv = sym (ap (λ q. s ++ listing q) (drop_past p i h) ∙ nil_right s) ∙ inv
+pub printed_more : (p : List encoding.Instruction) (i : ℕ) (d : encoding.Instruction) → i < length p → printed (take i p) ++ line_text (get_or p i d) ≡ printed (take (i + 1) p)
+printed_more p i d h =
+    flat_map_more line_text (header ++ (10 ∷ [])) (take i p) (get_or p i d) ∙ ap printed (sym (take_more p i d h))

@@ -4,19 +4,21 @@ use Rattle.std.specs.Char.{is_ascii_digit}
 use Rattle.std.specs.Str.{all_ascii_digits}
 use Rattle.std.proofs.lemmas.Fmt.{decimal_digit, decimal_step, decimal_nonempty, digits_decimal, digits_value-decimal, length-decimal-le}
 use Rattle.std.proofs.lemmas.Bool.{cases_lt}
+use Rattle.std.proofs.lemmas.Bool.{and_parts}
+use Rattle.std.specs.List.{list_all}
+use Rattle.std.proofs.lemmas.List.{append-nil}
 use Rattle.std.proofs.lemmas.Bool.Decides.{nat_tests}
 use Rattle.lexer.specs.declared.class.Class.TheVariants.{Blank, Word, Digit, Line}
-use Rattle.lexer.specs.declared.token.Kind.TheVariants.{Register, Integer}
 use Rattle.lexer.specs.Classes.{between, belongs, past}
-use Rattle.lexer.specs.Tokens.{kind_of, after_mark}
+use Rattle.lexer.specs.Tokens.{Register, Integer, kind_of, after_mark}
 use Rattle.parser.specs.Numbers.{register_of, written, numeral, signed, integer_of}
 use Rattle.parser.proofs.Digits.{own}
-use Rattle.printer.proofs.Fronts.{every, stopped, and_left, and_right, past_append, nil_right}
+use Rattle.printer.proofs.Fronts.{stopped, past_append}
 
-every_digits : (p : ℕ → Bool) → ((c : ℕ) → is_ascii_digit c ≡ true → p c ≡ true) → (ds : List ℕ) → all_ascii_digits ds ≡ true → every p ds ≡ true
+every_digits : (p : ℕ → Bool) → ((c : ℕ) → is_ascii_digit c ≡ true → p c ≡ true) → (ds : List ℕ) → all_ascii_digits ds ≡ true → list_all p ds ≡ true
 every_digits p f [] a = refl
 every_digits p f (d ∷ ds) a =
-    rw (f d (and_left (is_ascii_digit d) (all_ascii_digits ds) a)) (every_digits p f ds (and_right (is_ascii_digit d) (all_ascii_digits ds) a))
+    rw (f d ((and_parts (is_ascii_digit d) (all_ascii_digits ds) a).0)) (every_digits p f ds ((and_parts (is_ascii_digit d) (all_ascii_digits ds) a).1))
 
 digit_word : (c : ℕ) → is_ascii_digit c ≡ true → belongs Word c ≡ true
 digit_word c h = grind (arith, nat_tests)
@@ -28,24 +30,24 @@ digit_digit : (c : ℕ) → is_ascii_digit c ≡ true → belongs Digit c ≡ tr
 digit_digit c h = grind (arith, nat_tests)
 
 module _ (n : ℕ) (h : n < 2 ^ 64) where
-  pub decimal_word : every (belongs Word) (decimal n) ≡ true
+  pub decimal_word : list_all (belongs Word) (decimal n) ≡ true
   decimal_word = every_digits (belongs Word) digit_word (decimal n) (digits_decimal own n h)
 
-  pub decimal_line : every (belongs Line) (decimal n) ≡ true
+  pub decimal_line : list_all (belongs Line) (decimal n) ≡ true
   decimal_line = every_digits (belongs Line) digit_line (decimal n) (digits_decimal own n h)
 
 -- the kind of what starts with digits, or with a register's letter and digits
 register_starts : (ds rest : List ℕ) → 0 < length ds → all_ascii_digits ds ≡ true → kind_of (114 ∷ (ds ++ rest)) ≡ Register
 register_starts [] rest h a = absurd (omega arith)
-register_starts (d ∷ ds) rest h a = let k : is_ascii_digit d ≡ true = and_left (is_ascii_digit d) (all_ascii_digits ds) a in grind (arith, nat_tests)
+register_starts (d ∷ ds) rest h a = let k : is_ascii_digit d ≡ true = (and_parts (is_ascii_digit d) (all_ascii_digits ds) a).0 in grind (arith, nat_tests)
 
 integer_starts : (ds rest : List ℕ) → 0 < length ds → all_ascii_digits ds ≡ true → kind_of (ds ++ rest) ≡ Integer
 integer_starts [] rest h a = absurd (omega arith)
-integer_starts (d ∷ ds) rest h a = let k : is_ascii_digit d ≡ true = and_left (is_ascii_digit d) (all_ascii_digits ds) a in grind (arith, nat_tests)
+integer_starts (d ∷ ds) rest h a = let k : is_ascii_digit d ≡ true = (and_parts (is_ascii_digit d) (all_ascii_digits ds) a).0 in grind (arith, nat_tests)
 
 integer_bare : (ds rest : List ℕ) → 0 < length ds → all_ascii_digits ds ≡ true → stopped (belongs Blank) (ds ++ rest) ≡ true
 integer_bare [] rest h a = absurd (omega arith)
-integer_bare (d ∷ ds) rest h a = let k : is_ascii_digit d ≡ true = and_left (is_ascii_digit d) (all_ascii_digits ds) a in grind (arith, nat_tests)
+integer_bare (d ∷ ds) rest h a = let k : is_ascii_digit d ≡ true = (and_parts (is_ascii_digit d) (all_ascii_digits ds) a).0 in grind (arith, nat_tests)
 
 module _ (n : ℕ) (rest : List ℕ) (h : n < 2 ^ 64) where
   pub register_kind : kind_of (114 ∷ (decimal n ++ rest)) ≡ Register
@@ -77,10 +79,10 @@ register_back i h =
 
 no_minus : (ds : List ℕ) → 0 < length ds → all_ascii_digits ds ≡ true → after_mark 45 ds ≡ None
 no_minus [] h a = absurd (omega arith)
-no_minus (d ∷ ds) h a = let k : is_ascii_digit d ≡ true = and_left (is_ascii_digit d) (all_ascii_digits ds) a in grind (arith, nat_tests)
+no_minus (d ∷ ds) h a = let k : is_ascii_digit d ≡ true = (and_parts (is_ascii_digit d) (all_ascii_digits ds) a).0 in grind (arith, nat_tests)
 
 all_digits : (ds : List ℕ) → all_ascii_digits ds ≡ true → past Digit ds ≡ []
-all_digits ds a = rw nil_right at (past_append Digit ds [] (every_digits (belongs Digit) digit_digit ds a) refl)
+all_digits ds a = rw append-nil at (past_append Digit ds [] (every_digits (belongs Digit) digit_digit ds a) refl)
 
 is_numeral : (n : ℕ) → n < 2 ^ 32 → numeral (decimal n) ≡ true
 is_numeral n h =

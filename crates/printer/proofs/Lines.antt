@@ -1,5 +1,7 @@
 -- A printed line is read as its instruction. Assumes nothing.
 use Rattle.std.proofs.Common.{◌≡◌, ℕ, ◌^◌, ◌<◌, true, cond, ◌&&◌, ltb, List, [], ◌∷◌, ◌++◌, length, Some, None, Option, refl, ap, ◌∙◌, arith}
+use Rattle.std.proofs.lemmas.Bool.{and_parts}
+use Rattle.std.specs.List.{list_all}
 use Rattle.std.proofs.lemmas.Bool.Decides.{nat_tests}
 use Rattle.std.specs.Option.{option_map}
 use Rattle.encoding.specs.declared.mnemonic.Mnemonic.{Mnemonic}
@@ -14,11 +16,11 @@ use Rattle.encoding.proofs.Options.{if_some}
 use Rattle.lexer.specs.declared.class.Class.TheVariants.{Line}
 use Rattle.lexer.specs.Classes.{belongs}
 use Rattle.mnemonics.specs.Names.{name_of}
-use Rattle.parser.specs.Operands.{and_then, ended}
-use Rattle.parser.specs.Statements.{StatementView, stated, three_in, compare_in, two_in, store_in, one_in, operands_in, line, line_in}
+use Rattle.parser.specs.Operands.{ArgumentView, and_then, ended}
+use Rattle.parser.specs.Statements.{StatementView, stated, pair_in, reversed_in, three_in, compare_in, two_in, store_in, one_in, operands_in, line, line_in}
 use Rattle.assembler.specs.Resolve.{settled, encoded_by}
 use Rattle.printer.specs.Listing.{register_text, operand_text, comma, three_text, two_text, store_text, one_text, operation_text}
-use Rattle.printer.proofs.Fronts.{every, and_left, and_right, every_append}
+use Rattle.printer.proofs.Fronts.{every_append}
 use Rattle.printer.proofs.Digits.{decimal_line}
 use Rattle.printer.proofs.Operands.{view_of, operand_back, operand_last, register_in_lem, register_last, comma_in_lem}
 use Rattle.printer.proofs.Names.{name_plain, line_named}
@@ -32,11 +34,11 @@ record Bounds (i j : ℕ) (a : Operand) : Type 0 where
 bounds : (m : Mnemonic) (i j : ℕ) (a : Operand) (n : Instruction) → placed m i j a ≡ Some n → n.second < 2 ^ 32 → Bounds i j a
 bounds m i j a n e s =
     let h = if_some (ltb i 16 && (ltb j 16 && named a)) (packed m i j a) n e in
-    let r = and_right (ltb i 16) (ltb j 16 && named a) h.0 in
-    let l : ltb i 16 ≡ true = and_left (ltb i 16) (ltb j 16 && named a) h.0 in
-    let k : ltb j 16 ≡ true = and_left (ltb j 16) (named a) r in
+    let r = (and_parts (ltb i 16) (ltb j 16 && named a) h.0).1 in
+    let l : ltb i 16 ≡ true = (and_parts (ltb i 16) (ltb j 16 && named a) h.0).0 in
+    let k : ltb j 16 ≡ true = (and_parts (ltb j 16) (named a) r).0 in
     let w : operand_word a ≡ n.second = ap (λ (x : Instruction). x.second) h.1 in
-    record { left = grind (arith, nat_tests); right = grind (arith, nat_tests); known = and_right (ltb j 16) (named a) r; word = omega arith }
+    record { left = grind (arith, nat_tests); right = grind (arith, nat_tests); known = (and_parts (ltb j 16) (named a) r).1; word = omega arith }
 
 then : {A B : Type 0} (r : Option A) (x : A) (f : A → Option B) → r ≡ Some x → and_then r f ≡ f x
 then r x f e = ap (λ q. and_then q f) e
@@ -44,28 +46,30 @@ then r x f e = ap (λ q. and_then q f) e
 abbrev made : Mnemonic → ℕ → ℕ → Operand → StatementView
 made m i j a = record { mnemonic = m; destination = i; source = j; operand = view_of a }
 
+pair_back : (width i : ℕ) (a : Operand) → i < 16 → named a ≡ true → operand_word a < 2 ^ 32 → pair_in width (32 ∷ (register_text i ++ comma (operand_text a))) ≡ Some ((i, view_of a), [])
+pair_back width i a h n w =
+    then _ _ _ (register_in_lem width i (comma (operand_text a)) h refl)
+    ∙ (then _ _ _ (comma_in_lem (operand_text a)) ∙ ap (option_map (λ (x : ArgumentView × List ℕ). ((i, x.0), x.1))) (operand_last width a n w))
+
 three_back : (m : Mnemonic) (width i j : ℕ) (a : Operand) → Bounds i j a → three_in m width (32 ∷ (register_text i ++ comma (register_text j ++ comma (operand_text a)))) ≡ Some (made m i j a, [])
 three_back m width i j a h =
     then _ _ _ (register_in_lem width i (comma (register_text j ++ comma (operand_text a))) h.left refl)
     ∙ (then _ _ _ (comma_in_lem (register_text j ++ comma (operand_text a)))
-    ∙ (then _ _ _ (register_in_lem width j (comma (operand_text a)) h.right refl)
-    ∙ (then _ _ _ (comma_in_lem (operand_text a))
-    ∙ ap (option_map (stated m i j)) (operand_last width a h.known h.word))))
+    ∙ ap (option_map (λ (x : (ℕ × ArgumentView) × List ℕ). stated m i x.0.0 (x.0.1, x.1))) (pair_back width j a h.right h.known h.word))
 
 compare_back : (m : Mnemonic) (width j : ℕ) (a : Operand) → Bounds 0 j a → compare_in m width (32 ∷ (register_text j ++ comma (operand_text a))) ≡ Some (made m 0 j a, [])
-compare_back m width j a h =
-    then _ _ _ (register_in_lem width j (comma (operand_text a)) h.right refl)
-    ∙ (then _ _ _ (comma_in_lem (operand_text a)) ∙ ap (option_map (stated m 0 j)) (operand_last width a h.known h.word))
+compare_back m width j a h = ap (option_map (λ (x : (ℕ × ArgumentView) × List ℕ). stated m 0 x.0.0 (x.0.1, x.1))) (pair_back width j a h.right h.known h.word)
 
 two_back : (m : Mnemonic) (width i : ℕ) (a : Operand) → Bounds i 0 a → two_in m width (32 ∷ (register_text i ++ comma (operand_text a))) ≡ Some (made m i 0 a, [])
-two_back m width i a h =
-    then _ _ _ (register_in_lem width i (comma (operand_text a)) h.left refl)
-    ∙ (then _ _ _ (comma_in_lem (operand_text a)) ∙ ap (option_map (stated m i 0)) (operand_last width a h.known h.word))
+two_back m width i a h = ap (option_map (λ (x : (ℕ × ArgumentView) × List ℕ). stated m x.0.0 0 (x.0.1, x.1))) (pair_back width i a h.left h.known h.word)
+
+reversed_back : (width i : ℕ) (a : Operand) → i < 16 → named a ≡ true → operand_word a < 2 ^ 32 → reversed_in width (32 ∷ (operand_text a ++ comma (register_text i))) ≡ Some ((i, view_of a), [])
+reversed_back width i a h n w =
+    then _ _ _ (operand_back width a (comma (register_text i)) n w refl)
+    ∙ (then _ _ _ (comma_in_lem (register_text i)) ∙ ap (option_map (λ (x : ℕ × List ℕ). ((x.0, view_of a), x.1))) (register_last width i h))
 
 store_back : (m : Mnemonic) (width i : ℕ) (a : Operand) → Bounds i 0 a → store_in m width (32 ∷ (operand_text a ++ comma (register_text i))) ≡ Some (made m i 0 a, [])
-store_back m width i a h =
-    then _ _ _ (operand_back width a (comma (register_text i)) h.known h.word refl)
-    ∙ (then _ _ _ (comma_in_lem (register_text i)) ∙ ap (option_map (λ (x : ℕ × List ℕ). stated m x.0 0 (view_of a, x.1))) (register_last width i h.left))
+store_back m width i a h = ap (option_map (λ (x : (ℕ × ArgumentView) × List ℕ). stated m x.0.0 0 (x.0.1, x.1))) (reversed_back width i a h.left h.known h.word)
 
 one_back : (m : Mnemonic) (width : ℕ) (a : Operand) → Bounds 0 0 a → one_in m width (32 ∷ operand_text a) ≡ Some (made m 0 0 a, [])
 one_back m width a h = ap (option_map (stated m 0 0)) (operand_last width a h.known h.word)
@@ -121,7 +125,7 @@ encoded_of (O.Answer a) = placed_back M.Answer 0 0 a
 -- NO LINE END IN A LINE
 
 abbrev Plain : List ℕ → Type 0
-Plain w = every (belongs Line) w ≡ true
+Plain w = list_all (belongs Line) w ≡ true
 
 register_plain : (i : ℕ) → i < 16 → Plain (register_text i)
 register_plain i h = decimal_line i (omega arith)
@@ -148,7 +152,7 @@ store_plain m i a h =
 one_plain : (m : Mnemonic) (a : Operand) → Bounds 0 0 a → Plain (one_text m a)
 one_plain m a h = join (name_of m) _ (name_plain m) (operand_plain 0 0 a h)
 
-pub plain_of : (o : Operation) (n : Instruction) → encoded o ≡ Some n → n.second < 2 ^ 32 → every (belongs Line) (operation_text o) ≡ true
+pub plain_of : (o : Operation) (n : Instruction) → encoded o ≡ Some n → n.second < 2 ^ 32 → list_all (belongs Line) (operation_text o) ≡ true
 plain_of (O.Compute b i j a) n e s = three_plain (M.Compute b) i j a (bounds (M.Compute b) i j a n e s)
 plain_of (O.Not i a) n e s = let h = bounds M.Not i 0 a n e s in two_plain M.Not i i 0 a h.left h
 plain_of (O.Compare b j a) n e s = let h = bounds (M.Compare b) 0 j a n e s in two_plain (M.Compare b) j 0 j a h.right h

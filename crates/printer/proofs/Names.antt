@@ -1,5 +1,6 @@
 -- The 29 names, each read as what it is. Assumes nothing.
 use Rattle.std.proofs.Common.{◌≡◌, ℕ, ◌≤◌, true, List, [], ◌∷◌, ◌++◌, length, get_or, Some, None, Option, refl, ap, ◌∙◌, arith}
+use Rattle.std.specs.List.{list_all}
 use Rattle.std.specs.Option.{option_map}
 use Rattle.word.specs.declared.operator.Arithmetic.TheVariants.{And, Or, Xor, Add, Sub, Mull, Umulh, Smulh, Udiv, Umod, Shl, Shr}
 use Rattle.word.specs.declared.operator.Comparison.TheVariants.{Equal, Above, AboveOrEqual, Greater, GreaterOrEqual}
@@ -9,14 +10,12 @@ use Rattle.encoding.specs.declared.operation.Condition.TheVariants.{Always, IfFl
 use Rattle.encoding.specs.declared.mnemonic.Mnemonic as encoding
 use Rattle.encoding.specs.declared.mnemonic.Mnemonic.TheVariants.{Compute, Not, Compare, Move, MoveIfFlag, Jump, Store, Load, Read, Answer}
 use Rattle.lexer.specs.declared.class.Class.TheVariants.{Blank, Word, Line}
-use Rattle.lexer.specs.declared.token.Kind.{Kind}
-use Rattle.lexer.specs.declared.token.Kind.TheVariants.{Mnemonic}
 use Rattle.lexer.specs.Classes.{belongs, past}
-use Rattle.lexer.specs.Tokens.{start_of, kind_of, text_of, rest_of}
+use Rattle.lexer.specs.Tokens.{Kind, Mnemonic, start_of, kind_of, text_of, rest_of}
 use Rattle.mnemonics.specs.Names.{name_of, mnemonic_of}
 use Rattle.parser.specs.Operands.{and_then}
 use Rattle.parser.specs.Statements.{LineView, whole, statement_from, line_from, line, line_in}
-use Rattle.printer.proofs.Fronts.{every, stopped, front_append, past_append, kind_cons}
+use Rattle.printer.proofs.Fronts.{stopped, front_append, past_append, kind_cons}
 
 kind_of_lem : (w rest : List ℕ) → 2 ≤ length w → start_of (get_or w 0 0) (get_or w 1 0) ≡ Mnemonic → kind_of (w ++ rest) ≡ Mnemonic
 kind_of_lem [] rest h e = absurd (omega arith)
@@ -24,8 +23,8 @@ kind_of_lem (c ∷ []) rest h e = absurd (omega arith)
 kind_of_lem (c ∷ d ∷ w) rest h e = kind_cons c (d ∷ (w ++ rest)) ∙ e
 
 record Name (m : encoding.Mnemonic) : Type 0 where
-  pub plain : every (belongs Line) (name_of m) ≡ true
-  pub word : every (belongs Word) (name_of m) ≡ true
+  pub plain : list_all (belongs Line) (name_of m) ≡ true
+  pub word : list_all (belongs Word) (name_of m) ≡ true
   pub back : mnemonic_of (name_of m) ≡ Some m
   pub bare : (rest : List ℕ) → stopped (belongs Blank) (name_of m ++ rest) ≡ true
   pub long : 2 ≤ length (name_of m)
@@ -62,7 +61,7 @@ facts (Load size.Word) = record { plain = refl; word = refl; back = refl; bare =
 facts Read = record { plain = refl; word = refl; back = refl; bare = λ rest. refl; long = omega arith; start = refl }
 facts Answer = record { plain = refl; word = refl; back = refl; bare = λ rest. refl; long = omega arith; start = refl }
 
-pub name_plain : (m : encoding.Mnemonic) → every (belongs Line) (name_of m) ≡ true
+pub name_plain : (m : encoding.Mnemonic) → list_all (belongs Line) (name_of m) ≡ true
 name_plain m = (facts m).plain
 
 module _ (m : encoding.Mnemonic) (rest : List ℕ) where

@@ -1,19 +1,19 @@
 -- Printed operands are read as they are. Assumes nothing.
 use Rattle.std.proofs.Common.{◌≡◌, ℕ, ◌-◌, ◌^◌, ◌<◌, true, List, [], ◌∷◌, ◌++◌, length, Some, decimal, Option, refl, ap, ◌∙◌, subst, arith}
+use Rattle.std.specs.List.{list_all}
+use Rattle.std.proofs.lemmas.List.{append-nil}
 use Rattle.std.proofs.lemmas.Bool.Decides.{nat_tests}
 use Rattle.std.specs.Option.{option_map}
 use Rattle.encoding.specs.declared.operation.Operand.{Operand}
 use Rattle.encoding.specs.declared.operation.Operand.TheVariants as operand
 use Rattle.encoding.specs.Encoding as encoding
 use Rattle.lexer.specs.declared.class.Class.TheVariants.{Blank, Word}
-use Rattle.lexer.specs.declared.token.Kind.{Kind}
-use Rattle.lexer.specs.declared.token.Kind.TheVariants.{Register, Integer}
 use Rattle.lexer.specs.Classes.{belongs, front, past}
-use Rattle.lexer.specs.Tokens.{kind_of, text_of, rest_of}
+use Rattle.lexer.specs.Tokens.{Kind, Register, Integer, kind_of, text_of, rest_of}
 use Rattle.parser.specs.Numbers.{register_of, integer_of}
 use Rattle.parser.specs.Operands.{ArgumentView, register, integer, argument_from, and_then, on_register, on_comma, comma_in, operand_in, register_in}
 use Rattle.printer.specs.Listing.{register_text, operand_text, comma}
-use Rattle.printer.proofs.Fronts.{every, stopped, front_append, past_append, past_blank, nil_right, kind_cons}
+use Rattle.printer.proofs.Fronts.{stopped, front_append, past_append, past_blank, kind_cons}
 use Rattle.printer.proofs.Digits.{decimal_word, register_kind, integer_kind, integer_no_blank, register_back, integer_back}
 
 abbrev pub view_of : Operand → ArgumentView
@@ -44,7 +44,7 @@ module _ (width : ℕ) (bs x w rest : List ℕ) (b : past Blank bs ≡ x) (f : f
 register_operand : (width i : ℕ) (rest : List ℕ) → i < 16 → stopped (belongs Word) rest ≡ true → operand_in width (32 ∷ (register_text i ++ rest)) ≡ Some (register i, rest)
 register_operand width i rest h s =
     let l : i < 2 ^ 64 = omega arith in
-    let e : every (belongs Word) (register_text i) ≡ true = decimal_word i l in
+    let e : list_all (belongs Word) (register_text i) ≡ true = decimal_word i l in
     as_register width (32 ∷ (register_text i ++ rest)) (register_text i ++ rest) (register_text i) rest (past_blank (register_text i ++ rest) refl) (front_append Word (register_text i) rest e s) (past_append Word (register_text i) rest e s) i (register_kind i rest l) (register_back i h)
 
 integer_operand : (width n : ℕ) (rest : List ℕ) → n < 2 ^ 32 → stopped (belongs Word) rest ≡ true → operand_in width (32 ∷ (decimal n ++ rest)) ≡ Some (integer n, rest)
@@ -59,14 +59,14 @@ operand_back width (operand.Immediate m) rest n h s = integer_operand width m re
 
 pub operand_last : (width : ℕ) (a : Operand) → encoding.named a ≡ true → encoding.operand_word a < 2 ^ 32 → operand_in width (32 ∷ operand_text a) ≡ Some (view_of a, [])
 operand_last width a n h =
-    subst (λ t. operand_in width (32 ∷ t) ≡ Some (view_of a, [])) (nil_right (operand_text a)) (operand_back width a [] n h refl)
+    subst (λ t. operand_in width (32 ∷ t) ≡ Some (view_of a, [])) (append-nil (operand_text a)) (operand_back width a [] n h refl)
 
 pub register_in_lem : (width i : ℕ) (rest : List ℕ) → i < 16 → stopped (belongs Word) rest ≡ true → register_in width (32 ∷ (register_text i ++ rest)) ≡ Some (i, rest)
 register_in_lem width i rest h s = ap (λ q. and_then q (λ x. on_register x.0 x.1)) (register_operand width i rest h s)
 
 pub register_last : (width i : ℕ) → i < 16 → register_in width (32 ∷ register_text i) ≡ Some (i, [])
 register_last width i h =
-    subst (λ t. register_in width (32 ∷ t) ≡ Some (i, [])) (nil_right (register_text i)) (register_in_lem width i [] h refl)
+    subst (λ t. register_in width (32 ∷ t) ≡ Some (i, [])) (append-nil (register_text i)) (register_in_lem width i [] h refl)
 
 pub comma_in_lem : (x : List ℕ) → comma_in (comma x) ≡ Some (32 ∷ x)
 comma_in_lem x = ap (λ k. on_comma k (rest_of k (comma x))) (kind_cons 44 (32 ∷ x))

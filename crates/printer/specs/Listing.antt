@@ -6,6 +6,7 @@
 --   printed p         a program: the header, and a line for each instruction
 -- Assumes nothing.
 use Rattle.std.specs.Prelude.{ℕ, List, [], ◌∷◌, ◌++◌, decimal}
+use Rattle.std.specs.List.{flat_map}
 use Rattle.encoding.specs.declared.mnemonic.Mnemonic.{Mnemonic}
 use Rattle.encoding.specs.declared.mnemonic.Mnemonic.TheVariants as M
 use Rattle.encoding.specs.declared.operation.Operand.{Operand}
@@ -56,8 +57,7 @@ abbrev pub line_text : Instruction → List ℕ
 line_text n = operation_text (meant n) ++ (10 ∷ [])
 
 abbrev pub listing : List Instruction → List ℕ
-listing [] = []
-listing (n ∷ p) = line_text n ++ listing p
+listing p = flat_map line_text p
 
 abbrev pub printed : List Instruction → List ℕ
 printed p = header ++ (10 ∷ listing p)

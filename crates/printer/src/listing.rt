@@ -1,34 +1,28 @@
 // The listing of a program.
-ghost use Rattle.std.specs.Prelude.{◌≡◌, ◌++◌, IfOk, string_bytes, OnOk};
-ghost use Rattle.printer.specs.Listing.{line_text, printed};
+ghost use Rattle.std.specs.Prelude.{◌≡◌, Some, IfOk, string_bytes};
+ghost use Rattle.printer.specs.Listing.{printed};
 ghost use Rattle.printer.specs.Back.{PrintedAssembles};
 
-use crate::operation::operation_text;
+use crate::operation::OperationText;
+use assembler::text::HEADER;
 use encoding::instruction::Instruction;
 use std::alloc::{AllocError, Global};
+use std::fmt;
 
-fn line_text(heap: Global, instruction: Instruction) -> Result<String, AllocError>
-    ensures { IfOk result (λ t. string_bytes t ≡ line_text instruction) }
-{
-    let line = operation_text(heap, instruction.operation())?;
-    format!(in heap; "{line}\n")
-}
+#[derive(Clone, Copy)]
+struct Listing<'a>(&'a [Instruction]);
 
-fn push_line(heap: Global, text: &mut String, instruction: Instruction) -> Result<(), AllocError>
-    ensures { OnOk result (string_bytes text.new ≡ string_bytes text.old ++ line_text instruction) }
-{
-    let line = line_text(heap, instruction)?;
-    text.push_str(line.as_str())
-}
+impl fmt::Display for Listing<'_> {
+    ghost output = { λ p. Some (printed p.0.now) };
 
-fn list(heap: Global, program: &[Instruction]) -> Result<String, AllocError>
-    ensures { IfOk result (λ t. string_bytes t ≡ printed program.now) }
-{
-    let mut text = String::from_str(heap, "; TinyRAM V=2.000 M=hv W=32 K=16\n")?;
-    for instruction in program {
-        push_line(heap, &mut text, *instruction)?;
+    fn fmt<W: fmt::Write>(&self, f: &mut fmt::Formatter<W>) -> fmt::Result {
+        writeln!(f, "{HEADER}")?;
+        for instruction in self.0 {
+            let line = OperationText(instruction.operation());
+            writeln!(f, "{line}")?;
+        }
+        Ok(())
     }
-    Ok(text)
 }
 
 // The text of a program: the header, and a line for each instruction. One that is ill formed
@@ -37,5 +31,6 @@ pub fn print_program(heap: Global, program: &[Instruction]) -> Result<String, Al
     ensures bytes { IfOk result (λ t. string_bytes t ≡ printed program.now) }
     ensures back { PrintedAssembles }
 {
-    list(heap, program)
+    let listing = Listing(program);
+    format!(in heap; "{listing}")
 }

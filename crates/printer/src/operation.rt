@@ -1,75 +1,89 @@
 // An operation as a line of text.
-ghost use Rattle.std.specs.Prelude.{◌≡◌, IfOk, string_bytes};
-ghost use Rattle.printer.specs.Listing.{operand_text, three_text, two_text, store_text, one_text, operation_text};
+ghost use Rattle.std.specs.Prelude.{Some};
+ghost use Rattle.printer.specs.Listing.{operand_text, two_text, operation_text};
 
 use encoding::mnemonic::Mnemonic;
 use encoding::operation::{Operand, Operation};
 use mnemonics::name::name_of;
-use std::alloc::{AllocError, Global};
+use std::fmt::{self, Display};
 
-fn operand_text(heap: Global, a: Operand) -> Result<String, AllocError>
-    ensures { IfOk result (λ t. string_bytes t ≡ operand_text a) }
-{
-    match a {
-        Operand::Register(i) => format!(in heap; "r{i}"),
-        Operand::Immediate(n) => format!(in heap; "{n}"),
+// `A`
+#[derive(Clone, Copy)]
+struct OperandText(Operand);
+
+impl Display for OperandText {
+    ghost output = { λ a. Some (operand_text a.0) };
+
+    fn fmt<W: fmt::Write>(&self, f: &mut fmt::Formatter<W>) -> fmt::Result {
+        match self.0 {
+            Operand::Register(i) => write!(f, "r{i}"),
+            Operand::Immediate(n) => write!(f, "{n}"),
+        }
     }
 }
 
-fn three(heap: Global, m: Mnemonic, i: u8, j: u8, a: Operand) -> Result<String, AllocError>
-    ensures { IfOk result (λ t. string_bytes t ≡ three_text m i j a) }
-{
-    let word = name_of(m);
-    let operand = operand_text(heap, a)?;
-    format!(in heap; "{word} r{i}, r{j}, {operand}")
+// An instruction on a register and an operand, in this order.
+#[derive(Clone, Copy)]
+struct PairText(Mnemonic, u8, Operand);
+
+impl Display for PairText {
+    ghost output = { λ p. Some (two_text p.0 p.1 p.2) };
+
+    fn fmt<W: fmt::Write>(&self, f: &mut fmt::Formatter<W>) -> fmt::Result {
+        let name = name_of(self.0);
+        let register = self.1;
+        let operand = OperandText(self.2);
+        write!(f, "{name} r{register}, {operand}")
+    }
 }
 
-fn two(heap: Global, m: Mnemonic, i: u8, a: Operand) -> Result<String, AllocError>
-    ensures { IfOk result (λ t. string_bytes t ≡ two_text m i a) }
-{
-    let word = name_of(m);
-    let operand = operand_text(heap, a)?;
-    format!(in heap; "{word} r{i}, {operand}")
-}
+#[derive(Clone, Copy)]
+pub(crate) struct OperationText(pub(crate) Operation);
 
-fn store(heap: Global, m: Mnemonic, a: Operand, i: u8) -> Result<String, AllocError>
-    ensures { IfOk result (λ t. string_bytes t ≡ store_text m a i) }
-{
-    let word = name_of(m);
-    let operand = operand_text(heap, a)?;
-    format!(in heap; "{word} {operand}, r{i}")
-}
+impl Display for OperationText {
+    ghost output = { λ o. Some (operation_text o.0) };
 
-fn one(heap: Global, m: Mnemonic, a: Operand) -> Result<String, AllocError>
-    ensures { IfOk result (λ t. string_bytes t ≡ one_text m a) }
-{
-    let word = name_of(m);
-    let operand = operand_text(heap, a)?;
-    format!(in heap; "{word} {operand}")
-}
-
-pub(crate) fn operation_text(heap: Global, operation: Operation) -> Result<String, AllocError>
-    ensures { IfOk result (λ t. string_bytes t ≡ operation_text operation) }
-{
-    match operation {
-        Operation::Compute {
-            by,
-            to,
-            left,
-            right,
-        } => three(heap, Mnemonic::Compute(by), to, left, right),
-        Operation::Not { to, from } => two(heap, Mnemonic::Not, to, from),
-        Operation::Compare { by, left, right } => two(heap, Mnemonic::Compare(by), left, right),
-        Operation::Move { to, from } => two(heap, Mnemonic::Move, to, from),
-        Operation::MoveIfFlag { to, from } => two(heap, Mnemonic::MoveIfFlag, to, from),
-        Operation::Jump { when, target } => one(heap, Mnemonic::Jump(when), target),
-        Operation::Store {
-            size,
-            from,
-            address,
-        } => store(heap, Mnemonic::Store(size), address, from),
-        Operation::Load { size, to, address } => two(heap, Mnemonic::Load(size), to, address),
-        Operation::Read { to, tape } => two(heap, Mnemonic::Read, to, tape),
-        Operation::Answer { value } => one(heap, Mnemonic::Answer, value),
+    fn fmt<W: fmt::Write>(&self, f: &mut fmt::Formatter<W>) -> fmt::Result {
+        match self.0 {
+            Operation::Compute {
+                by,
+                to,
+                left,
+                right,
+            } => {
+                let name = name_of(Mnemonic::Compute(by));
+                let right = OperandText(right);
+                write!(f, "{name} r{to}, r{left}, {right}")
+            }
+            Operation::Not { to, from } => PairText(Mnemonic::Not, to, from).fmt(f),
+            Operation::Compare { by, left, right } => {
+                PairText(Mnemonic::Compare(by), left, right).fmt(f)
+            }
+            Operation::Move { to, from } => PairText(Mnemonic::Move, to, from).fmt(f),
+            Operation::MoveIfFlag { to, from } => PairText(Mnemonic::MoveIfFlag, to, from).fmt(f),
+            Operation::Jump { when, target } => {
+                let name = name_of(Mnemonic::Jump(when));
+                let target = OperandText(target);
+                write!(f, "{name} {target}")
+            }
+            Operation::Store {
+                size,
+                from,
+                address,
+            } => {
+                let name = name_of(Mnemonic::Store(size));
+                let address = OperandText(address);
+                write!(f, "{name} {address}, r{from}")
+            }
+            Operation::Load { size, to, address } => {
+                PairText(Mnemonic::Load(size), to, address).fmt(f)
+            }
+            Operation::Read { to, tape } => PairText(Mnemonic::Read, to, tape).fmt(f),
+            Operation::Answer { value } => {
+                let name = name_of(Mnemonic::Answer);
+                let value = OperandText(value);
+                write!(f, "{name} {value}")
+            }
+        }
     }
 }

@@ -1,0 +1,14 @@
+use Rattle.std.proofs.Common.{◌≡◌, ◌+◌, ◌≤◌, length}
+use Rattle.std.specs.Iterator.Adapters.{enumerate_source, enumerate_count}
+use Rattle.lexer.specs.Lines.{lines}
+use Rattle.assembler.specs.Labels.{summary}
+use Rattle.assembler.specs.Scan.{scanned}
+use Rattle.assembler.proofs.labels.Labels.scan.Given as goal
+
+abbrev pub invariant-loop-i : goal.invariant-loop-i
+invariant-loop-i l =
+    let left = lines (enumerate_source l.i-iterator).0.now in
+    record {
+      fits : enumerate_count l.i-iterator + length left ≤ length l.text;
+      scanned : scanned (2 + enumerate_count l.i-iterator) (summary l.self) left ≡ scanned 2 (summary l.initial.self) (lines l.text);
+    }

@@ -1,0 +1,9 @@
+use Rattle.std.proofs.Common.{arith}
+use Rattle.std.proofs.lemmas.Str.{lead_after_ascii}
+use Rattle.lexer.proofs.lines.past_end.Goals as goal
+
+pub range_from-requires : goal.range_from-requires
+range_from-requires c = grind (arith, lead_after_ascii c.args.s.now 0 c.utf8.s, lead_after_ascii c.args.s.now 1 c.utf8.s)
+
+pub range_from-requires-in-13-2 : goal.range_from-requires-in-13-2
+range_from-requires-in-13-2 c = grind (arith, lead_after_ascii c.args.s.now 0 c.utf8.s)

@@ -1,0 +1,24 @@
+use Rattle.std.proofs.Common.{◌≡◌, ◌≢◌, ℕ, ◌<◌, List, [], ◌∷◌, Some, None, Option, Bor, refl, ap, eq-eqb, arith}
+use Rattle.std.specs.Prelude.{MatchOption}
+use Rattle.std.proofs.lemmas.Bool.Decides.{nat_tests}
+use Rattle.std.proofs.lemmas.Str.Pattern.{strip_prefix_char}
+use Rattle.lexer.specs.Tokens.{shut, after_mark}
+use Rattle.lexer.proofs.token.after_mark.Goals as goal
+
+differs : (c : ℕ) (bs : List ℕ) → 0 < c → ((rest : List ℕ) → bs ≢ c ∷ rest) → None ≡ after_mark c bs
+differs c [] some h = grind (arith, nat_tests)
+differs c (b ∷ bs) some h = let off : b ≢ c = λ e. h bs (ap (λ x. x ∷ bs) e) in grind (arith, nat_tests)
+
+same : (c : ℕ) (bs rest : List ℕ) → bs ≡ c ∷ rest → Some rest ≡ after_mark c bs
+same c [] rest e = absurd (cc)
+same c (b ∷ bs) rest e =
+    let first : b ≡ c = cc in
+    let others : bs ≡ rest = cc in
+    rw (eq-eqb b c first, others) refl
+
+from_cases : (c : ℕ) (bs : List ℕ) (r : Option (Bor (List ℕ))) → 0 < c → MatchOption r ((rest : List ℕ) → bs ≢ c ∷ rest) (λ x. bs ≡ c ∷ x.now) → shut r ≡ after_mark c bs
+from_cases c bs None some h = differs c bs some h
+from_cases c bs (Some x) some h = same c bs x.now h
+
+pub returns : goal.returns
+returns c = λ some low. from_cases c.args.mark c.args.s.now _ some (strip_prefix_char c.args.mark c.args.s.now _ c.strip_prefix.ensures.cases low)

@@ -1,9 +1,0 @@
-use Rattle.std.proofs.Common.{sym, ◌∙◌, arith}
-use Rattle.parser.proofs.Digits.{parsed}
-use Rattle.parser.proofs.number.digits_of.Goals as goal
-
-pub returns-in-Ok : goal.returns-in-Ok
-returns-in-Ok c = let e = parsed c.args.text.now c.parse.result c.parse.ensures.value.0 (sym c.is_numeral.ensures ∙ c.if-not-is_numeral.false) in grind arith
-
-pub returns-in-Err : goal.returns-in-Err
-returns-in-Err c = let e = parsed c.args.text.now c.parse.result c.parse.ensures.value.0 (sym c.is_numeral.ensures ∙ c.if-not-is_numeral.false) in grind arith
