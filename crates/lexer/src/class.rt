@@ -17,16 +17,15 @@ pub enum Class {
 }
 
 impl Class {
-    fn has(self, b: u8) -> bool
-        ensures { result ≡ belongs self b }
+    fn has(self, c: char) -> bool
+        ensures { result ≡ belongs self c }
     {
         match self {
-            Class::Blank => matches!(b, b' ' | b'\t'),
-            Class::Word =>
-                matches!(b, b'-' | b'.' | b'0'..=b'9' | b'A'..=b'Z' | b'_' | b'a'..=b'z'),
-            Class::Name => matches!(b, b'0'..=b'9' | b'A'..=b'Z' | b'_' | b'a'..=b'z'),
-            Class::Digit => b.is_ascii_digit(),
-            Class::Line => !matches!(b, b'\n' | b'\r'),
+            Class::Blank => matches!(c, ' ' | '\t'),
+            Class::Word => matches!(c, '-' | '.' | '0'..='9' | 'A'..='Z' | '_' | 'a'..='z'),
+            Class::Name => matches!(c, '0'..='9' | 'A'..='Z' | '_' | 'a'..='z'),
+            Class::Digit => c.is_ascii_digit(),
+            Class::Line => !matches!(c, '\n' | '\r'),
         }
     }
 }
@@ -35,7 +34,10 @@ impl Class {
 fn front_len(s: &str, class: Class) -> usize
     ensures { result ≡ prefix_len (belongs class) s.now }
 {
-    s.as_bytes().iter().take_while(|b| class.has(**b)).count()
+    s.as_bytes()
+        .iter()
+        .take_while(|b| class.has(char::from(**b)))
+        .count()
 }
 
 // The longest front of the class, and what follows it.

@@ -1,5 +1,5 @@
 // The words and marks of a line.
-ghost use Rattle.std.specs.Prelude.{◌≡◌, ◌<◌, length};
+ghost use Rattle.std.specs.Prelude.{◌≡◌, ◌<◌, length, drop, slice_index};
 ghost use Rattle.lexer.specs.Tokens.{shut, seen, token_at, kind_of, rest_of, token_in, rest_in, after_mark};
 
 use crate::class::{Class, cut};
@@ -31,6 +31,21 @@ pub fn after_mark(s: &str, mark: char) -> Option<&str>
     s.strip_prefix(mark)
 }
 
+// The byte at a place as a character, and NUL past the end.
+fn char_at(s: &str, place: usize) -> char
+    ensures { result ≡ slice_index s.now place }
+{
+    s.as_bytes().get(place).map_or('\0', |b| char::from(*b))
+}
+
+// What follows an ASCII character.
+fn skip(s: &str) -> &str
+    requires { (0 < slice_index s.now 0) × (slice_index s.now 0 < 128) }
+    ensures { result.now ≡ drop 1 s.now }
+{
+    &s[1..]
+}
+
 // The first token of a text with no blank in front, and what follows it.
 fn first_token(s: &str, place: usize) -> (Token<'_>, &str)
     ensures token { seen result.0 ≡ token_at place s.now }
@@ -38,14 +53,15 @@ fn first_token(s: &str, place: usize) -> (Token<'_>, &str)
 {
     let (text, rest) = cut(s, Class::Word);
     let word = Word { text, place };
-    match s.as_bytes() {
-        [b'_', ..] => (Token::Label(word), rest),
-        [b'-' | b'0'..=b'9', ..] => (Token::Integer(word), rest),
-        [b'r', b'0'..=b'9', ..] => (Token::Register(word), rest),
-        [b'a'..=b'z', ..] => (Token::Mnemonic(word), rest),
-        [b':', ..] => (Token::Colon(place), &s[1..]),
-        [b',', ..] => (Token::Comma(place), &s[1..]),
-        [] | [b';', ..] => (Token::End(place), s),
+    match (char_at(s, 0), char_at(s, 1)) {
+        ('_', _) => (Token::Label(word), rest),
+        ('-' | '0'..='9', _) => (Token::Integer(word), rest),
+        ('r', '0'..='9') => (Token::Register(word), rest),
+        ('a'..='z', _) => (Token::Mnemonic(word), rest),
+        (':', _) => (Token::Colon(place), skip(s)),
+        (',', _) => (Token::Comma(place), skip(s)),
+        (';', _) => (Token::End(place), s),
+        _ if s.is_empty() => (Token::End(place), s),
         _ => (Token::Unknown(place), s),
     }
 }
