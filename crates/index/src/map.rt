@@ -1,6 +1,7 @@
 // A search tree by the digits of the cell. No search in it is longer than a cell has digits.
 // std's `HashMap`, with its room reserved, was tried in its place: 500,000 new cells by rising addresses took 70 ms by
-// themselves, where the whole run that opens them takes 66 to 79 ms with this tree.
+// themselves, where the whole run that opens them takes about 80 with this tree; and a program that knows the hash can
+// make searches long.
 ghost use Rattle.std.specs.Prelude.{◌≡◌, ◌+◌, length, [], IfOk, slice_set};
 ghost use Rattle.index.specs.Cells.{Apart, renewed};
 ghost use Rattle.index.specs.Tree.{Kept, Finds};
