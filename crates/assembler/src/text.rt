@@ -19,8 +19,7 @@ fn prepare(text: &str) -> Result<(Labels<'_>, usize), AssemblyError>
     if first != HEADER {
         return Err(AssemblyError::Header);
     }
-    let mut labels = Labels::new();
-    labels.scan(rest)?;
+    let labels = Labels::scan(rest)?;
     let needed = labels.entries(rest)?;
     Ok((labels, needed))
 }
