@@ -21,6 +21,11 @@ abbrev pub outcome : Result (Unit {0}) AssemblyError → declared.Labels → Res
 outcome (Ok x) t = Ok (summary t)
 outcome (Err e) t = Err e
 
+-- what a call has gathered
+abbrev pub gathered : Result declared.Labels AssemblyError → Result Known AssemblyError
+gathered (Ok t) = Ok (summary t)
+gathered (Err e) = Err e
+
 abbrev pub defined : Known → ℕ → List ℕ → Result Known AssemblyError
 defined k n w =
     cond (is_some (found w k.labels)) (Err (Redefined n))

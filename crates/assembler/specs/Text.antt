@@ -30,9 +30,14 @@ abbrev pub sized : Result (List Instruction) AssemblyError → Result ℕ Assemb
 sized r = onwards r (λ p. Ok (length p))
 
 -- the program by the labels that were found
-abbrev pub prepared : Result ℕ AssemblyError → declared.Labels → List ℕ → Result (List Instruction) AssemblyError
-prepared (Ok needed) t text = Ok (program (known t) (lines (other_lines text)))
-prepared (Err e) t text = Err e
+abbrev pub prepared : Result (declared.Labels × ℕ) AssemblyError → List ℕ → Result (List Instruction) AssemblyError
+prepared (Ok x) text = Ok (program (known x.0) (lines (other_lines text)))
+prepared (Err e) text = Err e
+
+-- how many entries it needs
+abbrev pub needed_of : Result (declared.Labels × ℕ) AssemblyError → Result ℕ AssemblyError
+needed_of (Ok x) = Ok x.1
+needed_of (Err e) = Err e
 
 abbrev pub fitted : ℕ → ℕ → Result ℕ AssemblyError
 fitted size needed = cond (nat_lt size needed) (Err (TableTooShort needed)) (Ok needed)

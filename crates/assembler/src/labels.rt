@@ -1,7 +1,7 @@
 // What the lines so far define: labels, and how many instructions there are.
 ghost use Rattle.std.specs.Prelude.{◌≡◌};
 ghost use Rattle.std.specs.Option.{option_map};
-ghost use Rattle.assembler.specs.Labels.{label_in, known, found, summary, none};
+ghost use Rattle.assembler.specs.Labels.{label_in, known, found};
 
 use arrayvec::ArrayVec;
 
@@ -13,22 +13,14 @@ pub struct Label<'a> {
 }
 
 // At most 256 labels, in the value itself, since assembling takes no heap.
-#[derive(Drop)]
+#[derive(Default, Drop)]
 pub struct Labels<'a> {
     pub labels: ArrayVec<Label<'a>, 256>,
     pub count: u32,
 }
 
 impl<'a> Labels<'a> {
-    pub(crate) fn new() -> Labels<'a>
-        ensures { summary result ≡ none }
-    {
-        Labels {
-            labels: ArrayVec::new(),
-            count: 0,
-        }
-    }
-
+    // The first label of a name.
     fn label(&self, name: &str) -> Option<&Label<'a>>
         ensures { option_map (λ x. x.now) result ≡ label_in name.now self.now.labels.items }
     {

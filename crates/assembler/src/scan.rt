@@ -3,8 +3,8 @@ ghost use Rattle.std.specs.Prelude.{◌≡◌};
 ghost use Rattle.std.specs.Option.{option_map};
 ghost use Rattle.lexer.specs.Lines.{lines};
 ghost use Rattle.parser.specs.Statements.{view_label};
-ghost use Rattle.assembler.specs.Labels.{summary};
-ghost use Rattle.assembler.specs.Scan.{outcome, labelled, counted, stepped, scanned};
+ghost use Rattle.assembler.specs.Labels.{summary, none};
+ghost use Rattle.assembler.specs.Scan.{outcome, gathered, labelled, counted, stepped, scanned};
 
 use crate::error::AssemblyError;
 use crate::labels::{Label, Labels};
@@ -59,14 +59,15 @@ impl<'a> Labels<'a> {
         self.tally(parts.statement.is_some(), n)
     }
 
-    // Takes the lines of a text, of which the first is line 2.
+    // What the lines of a text define, of which the first is line 2.
     #[tactic(auto, using(lexer::proofs::Split::lines_length))]
-    pub(crate) fn scan(&mut self, text: &'a str) -> Result<(), AssemblyError>
-        ensures { outcome result self.new ≡ scanned 2 (summary self.old) (lines text.now) }
+    pub(crate) fn scan(text: &'a str) -> Result<Labels<'a>, AssemblyError>
+        ensures { gathered result ≡ scanned 2 none (lines text.now) }
     {
+        let mut labels = Labels::default();
         for (i, line) in Lines(text).enumerate() {
-            self.take_line(line, 2 + i)?;
+            labels.take_line(line, 2 + i)?;
         }
-        Ok(())
+        Ok(labels)
     }
 }

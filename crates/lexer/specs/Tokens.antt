@@ -4,12 +4,12 @@
 --   kind_in bs       the kind of the first token of bs
 --   text_in bs       its text, which a mark and an end have not
 --   rest_in bs       what follows it
+--   token_at p bs    the first token of bs, which has no blank in front, at place p
 --   token_in w bs    the token, with its place in the line of w bytes that bs is the end of
 --   seen token       a token by its kind, its text and its place
 --   after_mark c bs  what follows the byte c at the very front of bs
 -- Assumes nothing.
 use Rattle.std.specs.Prelude.{ℕ, ◌-◌, cond, ◌&&◌, ◌||◌, List, [], length, drop, Some, None, Option, ◌==◌, slice_index}
-use Rattle.std.specs.Borrow.{Bor}
 use Rattle.lexer.specs.declared.class.Class.TheVariants.{Blank, Word}
 use Rattle.lexer.specs.declared.token.Token.{Token}
 use Rattle.lexer.specs.declared.token.Token.TheVariants as token
@@ -92,11 +92,6 @@ token_at place bs = record { kind = kind_of bs; text = text_of (kind_of bs) bs; 
 
 abbrev pub token_in : ℕ → List ℕ → Seen
 token_in width bs = record { kind = kind_in bs; text = text_in bs; place = place_in width bs }
-
--- what a reference in an answer points to
-abbrev pub shut : Option (Bor (List ℕ)) → Option (List ℕ)
-shut (Some x) = Some x.now
-shut None = None
 
 abbrev pub after_mark : ℕ → List ℕ → Option (List ℕ)
 after_mark c bs = cond (slice_index bs 0 == c) (Some (drop 1 bs)) None

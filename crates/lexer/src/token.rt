@@ -1,6 +1,7 @@
 // The words and marks of a line.
 ghost use Rattle.std.specs.Prelude.{◌≡◌, ◌<◌, length, drop, slice_index};
-ghost use Rattle.lexer.specs.Tokens.{shut, seen, token_at, kind_of, rest_of, token_in, rest_in, after_mark};
+ghost use Rattle.std.specs.Option.{option_copied};
+ghost use Rattle.lexer.specs.Tokens.{seen, token_at, kind_of, rest_of, token_in, rest_in, after_mark};
 
 use crate::class::{Class, cut};
 
@@ -26,7 +27,7 @@ pub enum Token<'a> {
 
 // What follows an ASCII character that stands at the very front.
 pub fn after_mark(s: &str, mark: char) -> Option<&str>
-    ensures { 0 < mark → mark < 128 → shut result ≡ after_mark mark s.now }
+    ensures { 0 < mark → mark < 128 → option_copied result ≡ after_mark mark s.now }
 {
     s.strip_prefix(mark)
 }

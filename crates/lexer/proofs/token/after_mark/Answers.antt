@@ -2,7 +2,8 @@ use Rattle.std.proofs.Common.{◌≡◌, ◌≢◌, ℕ, ◌<◌, List, [], ◌�
 use Rattle.std.specs.Prelude.{MatchOption}
 use Rattle.std.proofs.lemmas.Bool.Decides.{nat_tests}
 use Rattle.std.proofs.lemmas.Str.Pattern.{strip_prefix_char}
-use Rattle.lexer.specs.Tokens.{shut, after_mark}
+use Rattle.std.specs.Option.{option_copied}
+use Rattle.lexer.specs.Tokens.{after_mark}
 use Rattle.lexer.proofs.token.after_mark.Goals as goal
 
 differs : (c : ℕ) (bs : List ℕ) → 0 < c → ((rest : List ℕ) → bs ≢ c ∷ rest) → None ≡ after_mark c bs
@@ -16,7 +17,7 @@ same c (b ∷ bs) rest e =
     let others : bs ≡ rest = cc in
     rw (eq-eqb b c first, others) refl
 
-from_cases : (c : ℕ) (bs : List ℕ) (r : Option (Bor (List ℕ))) → 0 < c → MatchOption r ((rest : List ℕ) → bs ≢ c ∷ rest) (λ x. bs ≡ c ∷ x.now) → shut r ≡ after_mark c bs
+from_cases : (c : ℕ) (bs : List ℕ) (r : Option (Bor (List ℕ))) → 0 < c → MatchOption r ((rest : List ℕ) → bs ≢ c ∷ rest) (λ x. bs ≡ c ∷ x.now) → option_copied r ≡ after_mark c bs
 from_cases c bs None some h = differs c bs some h
 from_cases c bs (Some x) some h = same c bs x.now h
 
