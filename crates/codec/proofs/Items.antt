@@ -1,13 +1,11 @@
 -- Items at computed places. Assumes nothing.
-use Rattle.std.proofs.Common.{◌≡◌, ℕ, zero, suc, ◌+◌, ◌-◌, ◌*◌, ◌<◌, ◌≤◌, Bool, false, cond, ◌&&◌, eqb, List, length, get_or, take, drop, Some, None, Option, sym, refl, ap, ◌∙◌, mul-zero, mul-one, mul-suc, mul-add, arith, length-take}
+use Rattle.std.proofs.Common.{◌≡◌, ℕ, zero, suc, ◌+◌, ◌-◌, ◌*◌, ◌<◌, ◌≤◌, List, length, take, drop, Some, None, Option, sym, refl, ap, ◌∙◌, mul-zero, mul-one, mul-suc, mul-add, arith}
 use Rattle.std.specs.List.{slice_get}
 use Rattle.std.proofs.lemmas.Nat.{mul-le}
 use Rattle.std.proofs.lemmas.List.{drop-drop}
 use Rattle.std.proofs.lemmas.Option.{slice_get_past}
 use Rattle.dossier.specs.declared.refusal.Part.{Part}
 use Rattle.dossier.specs.Meaning.{item_answer}
-use Rattle.std.proofs.lemmas.Bool.Decides.{nat_tests}
-use Rattle.field.specs.Bytes.{field_read}
 use Rattle.codec.specs.Held.{item_of, items}
 
 -- the field at place k ends where n fields do, or before
@@ -39,17 +37,6 @@ module _ {R : Type 0} (f : List ℕ → Option R) (z : ℕ) where
   item_found p w n k start bs x e h is =
       let same = is ∙ ap (λ y. f (take (start + y * k + y - (start + y * k)) (drop (start + y * k) bs))) e in
       ap (λ (y : Option R). item_answer p k (Some (item_of y))) same ∙ sym (ap (item_answer p k) (nth_at n k start bs h))
-
-pub short_field : {R : Type 0} (t s : ℕ) (f : List ℕ → Option R) (n : ℕ) (bs : List ℕ) → length bs < 3 + s → field_read t s f (take n bs) ≡ None
-short_field t s f n bs h =
-    let cs = take n bs in
-    let few : length cs < 3 + s = let e = length-take n bs in omega arith in
-    let fails : (eqb (length cs) (3 + s) && (eqb (get_or cs 0 0) t && eqb (get_or cs 1 0 + get_or cs 2 0 * 256) s)) ≡ false = grind (arith, nat_tests) in
-    ap (λ (b : Bool). cond b (f (drop 3 cs)) None) fails
-
--- a loop that has come to place k has room for one more field
-pub in_room : (start z size at k n len : ℕ) → size ≡ z → at ≡ start + z * k → k < n → start + z * n ≤ len → at + size ≤ len
-in_room start z size at k n len e f h all = let r = room z k n h in omega arith
 
 pub one_on : (start z size at k : ℕ) → size ≡ z → at ≡ start + z * k → at + size ≡ start + z * (k + 1)
 one_on start z size at k e f = let a = mul-add z k 1 in let b = mul-one z in omega arith

@@ -1,4 +1,5 @@
 // Where the parts of a file begin. The sums are below 2^38, so that they fit.
+// The fields of 23, 11, 7, 11 and 24 bytes are the format's; a sum for each part is plainer than one over the kinds.
 ghost use Rattle.std.specs.Prelude.{◌≡◌, ℕ};
 ghost use Rattle.dossier.specs.declared.record.Head.{Head};
 ghost use Rattle.codec.specs.Layout.{instructions_start, words_start, lines_start, rows_start, file_size};

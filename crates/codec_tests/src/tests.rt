@@ -14,11 +14,9 @@ const SIZE: usize = 71;
 
 fn two_rows(bound: u32, first: Row, second: Row) -> [u8; SIZE] {
     let head = Head {
-        instructions: 0,
-        words: 0,
-        lines: 0,
         rows: 2,
         bound,
+        ..Head::default()
     };
     let mut bytes = [0u8; SIZE];
     write_field(&head, &mut bytes[0..23]);

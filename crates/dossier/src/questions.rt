@@ -6,7 +6,9 @@ use crate::record::{Head, Line, Row};
 use crate::refusal::Refusal;
 use encoding::instruction::Instruction;
 
-// Asking keeps the implementation's own rule and never alters the meaning.
+// Asking keeps the implementation's own rule and never alters the meaning; each question requires the rule, as is the
+// one requirement of the project's public functions. There are five questions and no generic one, so that a holder may
+// answer each kind by its own means; `ListedRecord` asks by the kind.
 // Who asks for the head learns as well that the head counts the items and that all numbers fit.
 pub trait Dossier {
     ghost meaning: { Self → Meaning };

@@ -1,59 +1,85 @@
-// The records of a dossier in bytes, taken into tables.
-use dossier::record::{Head, Row};
-use dossier::refusal::Part;
+// The records of a dossier, taken into tables.
+use dossier::listed::ListedRecord;
+use dossier::questions::Dossier;
+use dossier::record::{Head, Line, Row};
+use dossier::refusal::Refusal;
 use encoding::instruction::Instruction;
 use index::entry::CellEntry;
-use listing::answer::Answer;
-use listing::ask::answer;
-use std::alloc::{AllocError, Global};
+use std::alloc::{AllocError, AllocFailed, Global};
+
+// Why a dossier's records are in no tables.
+#[derive(Clone, Copy, Debug)]
+pub(crate) enum ReadError {
+    Refused(Refusal),
+    OutOfMemory,
+}
+
+impl From<Refusal> for ReadError {
+    fn from(refusal: Refusal) -> ReadError {
+        ReadError::Refused(refusal)
+    }
+}
+
+impl<T: Drop> From<AllocFailed<T>> for ReadError {
+    fn from(_failed: AllocFailed<T>) -> ReadError {
+        ReadError::OutOfMemory
+    }
+}
+
+impl From<AllocError> for ReadError {
+    fn from(_error: AllocError) -> ReadError {
+        ReadError::OutOfMemory
+    }
+}
 
 #[derive(Drop)]
-pub struct Tables {
-    pub program: Vec<Instruction>,
-    pub words: Vec<u32>,
-    pub cells: Vec<CellEntry>,
-    pub rows: Vec<Row>,
+pub(crate) struct Tables {
+    pub(crate) bound: u32,
+    pub(crate) program: Vec<Instruction>,
+    pub(crate) words: Vec<u32>,
+    pub(crate) cells: Vec<CellEntry>,
+    pub(crate) rows: Vec<Row>,
 }
 
-impl Tables {
-    // Takes a record; false where the item is unreadable.
-    fn keep(&mut self, item: Answer) -> Result<bool, AllocError> {
-        match item {
-            Answer::Instruction(instruction) => self.program.push(instruction)?,
-            Answer::Word(word) => self.words.push(word)?,
-            Answer::Line(line) => self.cells.push(CellEntry {
-                cell: line.cell,
-                first: line.step,
-                last: 0,
-                value: 0,
-            })?,
-            Answer::Row(row) => self.rows.push(row)?,
-            _ => return Ok(false),
-        }
-        Ok(true)
+// The records of one part.
+fn part<R: ListedRecord, D: Dossier>(
+    heap: Global,
+    dossier: &mut D,
+    head: Head,
+) -> Result<Vec<R>, ReadError>
+    requires { D.Dossier.rule dossier.old }
+    ensures { D.Dossier.rule dossier.new }
+{
+    let mut records = Vec::new(heap);
+    for place in 0..R::count(head) {
+        records.push(R::ask(dossier, place)?)?;
     }
-
-    fn keep_part(&mut self, bytes: &[u8], part: Part, count: u32) -> Result<bool, AllocError> {
-        for place in 0..count {
-            if !self.keep(answer(bytes, part, place))? {
-                return Ok(false);
-            }
-        }
-        Ok(true)
-    }
+    Ok(records)
 }
 
-// All records under a head, or `None` where one is unreadable.
-pub(crate) fn read(heap: Global, bytes: &[u8], head: Head) -> Result<Option<Tables>, AllocError> {
-    let mut tables = Tables {
-        program: Vec::new(heap),
-        words: Vec::new(heap),
-        cells: Vec::new(heap),
-        rows: Vec::new(heap),
-    };
-    let all = tables.keep_part(bytes, Part::Instruction, head.instructions)?
-        && tables.keep_part(bytes, Part::Word, head.words)?
-        && tables.keep_part(bytes, Part::Line, head.lines)?
-        && tables.keep_part(bytes, Part::Row, head.rows)?;
-    Ok(if all { Some(tables) } else { None })
+// All records of a dossier that is readable throughout.
+pub(crate) fn read<D: Dossier>(heap: Global, dossier: &mut D) -> Result<Tables, ReadError>
+    requires { D.Dossier.rule dossier.old }
+{
+    let head = dossier.head()?;
+    let program = part(heap, dossier, head)?;
+    let words = part(heap, dossier, head)?;
+    let lines: Vec<Line> = part(heap, dossier, head)?;
+    let rows = part(heap, dossier, head)?;
+    let cells = lines
+        .iter()
+        .map(|line| CellEntry {
+            cell: line.cell,
+            first: line.step,
+            last: 0,
+            value: 0,
+        })
+        .collect(heap)?;
+    Ok(Tables {
+        bound: head.bound,
+        program,
+        words,
+        cells,
+        rows,
+    })
 }

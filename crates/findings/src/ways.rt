@@ -1,13 +1,11 @@
 // The ways of checking one dossier.
-use crate::tables::read;
+use crate::tables::{ReadError, Tables, read};
 use checking::calls::{check_all, run_calls};
 use codec::holder::ByteDossier;
 use course::receipt::Receipt;
-use dossier::refusal::Part;
+use dossier::questions::Dossier;
 use layers::cache::RowCache;
 use layers::pair::Pair;
-use listing::answer::Answer;
-use listing::ask::answer;
 use rules::call::Call;
 use std::alloc::{AllocError, Global};
 use table::holder::TableDossier;
@@ -22,54 +20,40 @@ fn unit_by_unit(heap: Global, bytes: &[u8]) -> Result<Receipt, AllocError> {
     Ok(run_calls(ByteDossier::new(bytes), &calls).receipt())
 }
 
-// The same records in tables, and in a pair of tables and bytes under a cache.
-fn from_tables(heap: Global, bytes: &[u8]) -> Result<Option<(Receipt, Receipt)>, AllocError> {
-    let Answer::Head(head) = answer(bytes, Part::Head, 0) else {
-        return Ok(None);
-    };
-    let Some(tables) = read(heap, bytes, head)? else {
-        return Ok(None);
-    };
-    let alone = TableDossier::new(
-        head.bound,
+fn in_tables<'a>(tables: &'a Tables) -> TableDossier<'a>
+    ensures { ⟦<TableDossier<'a> as Dossier>⟧.rule result }
+{
+    TableDossier::new(
+        tables.bound,
         &tables.program,
         &tables.words,
         &tables.cells,
         &tables.rows,
-    );
-    let paired = TableDossier::new(
-        head.bound,
-        &tables.program,
-        &tables.words,
-        &tables.cells,
-        &tables.rows,
-    );
-    let pair = RowCache::new(Pair::new(paired, ByteDossier::new(bytes)));
-    Ok(Some((check_all(alone).receipt(), check_all(pair).receipt())))
+    )
 }
 
-fn agree(heap: Global, text: &str, other: Receipt) -> Result<bool, AllocError> {
-    let other = other.to_string(heap)?;
-    Ok(other.as_str() == text)
-}
-
-// Whether every other way makes the receipt with this text.
-fn all_agree(heap: Global, bytes: &[u8], text: &str) -> Result<bool, AllocError> {
-    let cached = check_all(RowCache::new(ByteDossier::new(bytes))).receipt();
-    let pair = Pair::new(
+// The receipts of the ways that take bytes, and if the records are readable, of those that take them in tables.
+fn receipts(heap: Global, bytes: &[u8]) -> Result<Vec<Receipt>, AllocError> {
+    let cached = RowCache::new(ByteDossier::new(bytes));
+    let paired = Pair::new(
         RowCache::new(ByteDossier::new(bytes)),
         ByteDossier::new(bytes),
     );
-    let paired = check_all(pair).receipt();
-    if !agree(heap, text, cached)? || !agree(heap, text, paired)? {
-        return Ok(false);
-    }
-    if let Some((alone, layered)) = from_tables(heap, bytes)? {
-        if !agree(heap, text, alone)? || !agree(heap, text, layered)? {
-            return Ok(false);
+    let mut receipts = vec![in heap;
+        check_all(cached).receipt(),
+        check_all(paired).receipt(),
+        unit_by_unit(heap, bytes)?,
+    ]?;
+    match read(heap, &mut ByteDossier::new(bytes)) {
+        Ok(tables) => {
+            let mixed = RowCache::new(Pair::new(in_tables(&tables), ByteDossier::new(bytes)));
+            receipts.push(check_all(in_tables(&tables)).receipt())?;
+            receipts.push(check_all(mixed).receipt())?;
+            Ok(receipts)
         }
+        Err(ReadError::Refused(_)) => Ok(receipts),
+        Err(ReadError::OutOfMemory) => Err(AllocError),
     }
-    agree(heap, text, unit_by_unit(heap, bytes)?)
 }
 
 // What the verdict says, in the last line of the receipt, where all ways say the same.
@@ -77,11 +61,10 @@ pub(crate) fn every_way(heap: Global, bytes: &[u8]) -> Result<String, AllocError
     let text = check_all(ByteDossier::new(bytes))
         .receipt()
         .to_string(heap)?;
-    if !all_agree(heap, bytes, text.as_str())? {
-        return String::from_str(heap, "the ways differ");
+    for other in receipts(heap, bytes)? {
+        if other.to_string(heap)?.as_str() != text.as_str() {
+            return String::from_str(heap, "the ways differ");
+        }
     }
-    match text.as_str().lines().last() {
-        Some(line) => String::from_str(heap, line),
-        None => String::from_str(heap, "no line"),
-    }
+    String::from_str(heap, text.as_str().lines().last().unwrap_or("no line"))
 }
