@@ -8,7 +8,7 @@ use encoding::instruction::Instruction;
 use lexer::lines::next_line;
 
 // The first line of every program.
-pub const HEADER: &str = "; TinyRAM V=2.000 M=hv W=32 K=16";
+const HEADER: &[u8; 32] = b"; TinyRAM V=2.000 M=hv W=32 K=16";
 
 // The labels of a text, and how many entries its program needs.
 fn prepare(text: &str) -> Result<(Labels<'_>, usize), AssemblyError>
@@ -16,7 +16,7 @@ fn prepare(text: &str) -> Result<(Labels<'_>, usize), AssemblyError>
     ensures needed { needed_of result ≡ sized (assembled text.now) }
 {
     let (first, rest) = next_line(text);
-    if first != HEADER {
+    if first.as_bytes() != HEADER.as_slice() {
         return Err(AssemblyError::Header);
     }
     let labels = Labels::scan(rest)?;

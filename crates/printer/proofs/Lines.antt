@@ -12,7 +12,7 @@ use Rattle.encoding.specs.declared.operation.Operation.{Operation}
 use Rattle.encoding.specs.declared.operation.Operation.TheVariants as O
 use Rattle.encoding.specs.declared.instruction.Instruction.{Instruction}
 use Rattle.encoding.specs.Encoding.{named, operand_word, packed, placed, encoded}
-use Rattle.encoding.proofs.Options.{if_some}
+use Rattle.std.proofs.lemmas.Option.{cond_some}
 use Rattle.lexer.specs.declared.class.Class.TheVariants.{Line}
 use Rattle.lexer.specs.Classes.{belongs}
 use Rattle.mnemonics.specs.Names.{name_of}
@@ -33,7 +33,7 @@ record Bounds (i j : ℕ) (a : Operand) : Type 0 where
 
 bounds : (m : Mnemonic) (i j : ℕ) (a : Operand) (n : Instruction) → placed m i j a ≡ Some n → n.second < 2 ^ 32 → Bounds i j a
 bounds m i j a n e s =
-    let h = if_some (ltb i 16 && (ltb j 16 && named a)) (packed m i j a) n e in
+    let h = cond_some (ltb i 16 && (ltb j 16 && named a)) (packed m i j a) n e in
     let r = (and_parts (ltb i 16) (ltb j 16 && named a) h.0).1 in
     let l : ltb i 16 ≡ true = (and_parts (ltb i 16) (ltb j 16 && named a) h.0).0 in
     let k : ltb j 16 ≡ true = (and_parts (ltb j 16) (named a) r).0 in

@@ -4,7 +4,6 @@ ghost use Rattle.printer.specs.Listing.{printed};
 ghost use Rattle.printer.specs.Back.{PrintedAssembles};
 
 use crate::operation::OperationText;
-use assembler::text::HEADER;
 use encoding::instruction::Instruction;
 use std::alloc::{AllocError, Global};
 use std::fmt;
@@ -16,7 +15,7 @@ impl fmt::Display for Listing<'_> {
     ghost output = { λ p. Some (printed p.0.now) };
 
     fn fmt<W: fmt::Write>(&self, f: &mut fmt::Formatter<W>) -> fmt::Result {
-        writeln!(f, "{HEADER}")?;
+        writeln!(f, "; TinyRAM V=2.000 M=hv W=32 K=16")?;
         for instruction in self.0 {
             let line = OperationText(instruction.operation());
             writeln!(f, "{line}")?;
