@@ -33,8 +33,8 @@ impl<'a> TableDossier<'a> {
         cells: &'a [CellEntry],
         rows: &'a [Row],
     ) -> TableDossier<'a>
-        ensures rule { (result.bound < 2 ^ 32) × (result.head ≡ head_of result.bound result.program.now result.primary.now result.cells.now result.rows.now) }
-        ensures meant { table_meaning result.bound result.program.now result.primary.now result.cells.now result.rows.now ≡ table_meaning bound program.now primary.now cells.now rows.now }
+        ensures rule { ⟦<TableDossier<'a> as Dossier>⟧.rule result }
+        ensures meant { ⟦<TableDossier<'a> as Dossier>⟧.meaning result ≡ table_meaning bound program.now primary.now cells.now rows.now }
     {
         TableDossier {
             bound,
