@@ -16,7 +16,8 @@ pub trait Dossier {
     // What the implementation keeps; making it sets this up.
     ghost rule: { Self → Type 0 };
 
-    // A law of the trait would say `made`, but an impl with a lifetime cannot have one proved.
+    // `made` is told here and by no law of the trait: an implementation proves a law from specs/ alone, and that the
+    // bytes of a file mean this takes a page of lemmas.
     fn head(&mut self) -> Result<Head, Refusal>
         requires { rule self.old }
         ensures kept { rule self.new }

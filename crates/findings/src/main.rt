@@ -11,10 +11,14 @@ use anyhow::{Context, Result, bail};
 use std::io::{BufRead, BufReader};
 use ways::every_way;
 
+// Small letters alone.
 fn digit(byte: u8) -> Result<u32>
     ensures { IfOk result (λ digit. digit < 16) }
 {
-    char::from(byte).to_digit(16).context("no hex digit")
+    match char::from(byte) {
+        c @ ('0'..='9' | 'a'..='f') => c.to_digit(16).context("no hex digit"),
+        _ => bail!("no hex digit"),
+    }
 }
 
 fn unhex(rt: &HostRuntime, text: &str) -> Result<Vec<u8>> {

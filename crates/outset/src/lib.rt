@@ -18,15 +18,6 @@ const WORDS: u32 = 4_096;
 
 const STEPS: u32 = 1_000_000;
 
-// Without a head all its numbers are 0.
-const NO_HEAD: Head = Head {
-    instructions: 0,
-    words: 0,
-    lines: 0,
-    rows: 0,
-    bound: 0,
-};
-
 fn in_limits(head: Head) -> bool
     ensures { result ≡ in_limits head }
 {
@@ -55,7 +46,7 @@ fn stop(head: Head, rule: Rule) -> Progress
     }
 }
 
-// The beginning of a checking under a head, or under none.
+// The beginning of a checking under a head, or under none: then all the head's numbers are 0.
 pub fn begin_under(answer: Result<Head, Refusal>) -> Progress
     ensures { result ≡ begun_by answer }
 {
@@ -68,7 +59,7 @@ pub fn begin_under(answer: Result<Head, Refusal>) -> Progress
             finding: None,
         },
         Ok(head) => stop(head, Rule::Limits),
-        Err(_) => stop(NO_HEAD, Rule::Head),
+        Err(_) => stop(Head::default(), Rule::Head),
     }
 }
 

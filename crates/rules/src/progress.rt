@@ -23,7 +23,7 @@ pub enum Item {
 }
 
 // The kind of unit that is being taken, and what has to be kept from unit to unit.
-#[derive(Clone, Copy)]
+#[derive(Clone, Copy, PartialEq, Debug)]
 pub enum Stage {
     Instructions,
     Words,
@@ -34,7 +34,7 @@ pub enum Stage {
 }
 
 // The head's numbers, or zeros without a head; units in all and taken; the stage; the finding, if there is one.
-#[derive(Clone, Copy)]
+#[derive(Clone, Copy, PartialEq, Debug)]
 pub struct Progress {
     pub head: Head,
     pub total: u32,

@@ -25,13 +25,7 @@ pub(crate) fn touch_of(row: Row) -> Touch
 {
     match row {
         Row::FromLine(touch) | Row::FromStep(touch) => touch,
-        _ => Touch {
-            cell: 0,
-            before: 0,
-            after: 0,
-            origin: 0,
-            next: 0,
-        },
+        _ => Touch::default(),
     }
 }
 

@@ -109,7 +109,8 @@ impl Turn {
         })
     }
 
-    // Finding 22 at the unit, with the whole fault. An item past its list is never asked for.
+    // Finding 22 at the unit, with the whole fault. An item past its list is never asked for; a `From` for faults
+    // would offer the layer 0 that fills its place here to everyone.
     fn find_fault(self, refusal: Refusal) -> Finding
         ensures { result ≡ unreadable self.unit refusal }
     {
