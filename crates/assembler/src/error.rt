@@ -26,6 +26,7 @@ pub struct Refusal {
     pub value: usize,
 }
 
+// The numbers are the format's.
 impl AssemblyError {
     pub fn refusal(self) -> Refusal
         ensures { result ≡ refusal_of self }

@@ -3,6 +3,7 @@ ghost use Rattle.std.specs.Prelude.{◌≡◌};
 ghost use Rattle.std.specs.List.{prefix_len};
 ghost use Rattle.lexer.specs.Classes.{belongs, front, past};
 
+// The classes are few and fixed, and definitions name them, which a closure cannot be.
 #[derive(Clone, Copy)]
 pub enum Class {
     // space and tab

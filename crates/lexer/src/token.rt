@@ -67,7 +67,8 @@ fn first_token(s: &str, place: usize) -> (Token<'_>, &str)
     }
 }
 
-// What is left of a line that has `width` bytes.
+// What is left of a line that has `width` bytes. That the width stays is a clause of each reader: a field that no caller
+// may write would need a reader of its own.
 #[derive(Clone, Copy)]
 pub struct Cursor<'a> {
     pub rest: &'a str,

@@ -35,7 +35,7 @@ fn read_pair<'a>(line: &mut Cursor<'a>) -> Option<(u8, Argument<'a>)>
     Some((register, operand))
 }
 
-// Takes `A, ri`.
+// Takes `A, ri`: the same two in the other order, which no parameter would make plainer.
 fn read_reversed<'a>(line: &mut Cursor<'a>) -> Option<(u8, Argument<'a>)>
     ensures value { left view_pair result line.new ≡ reversed_in line.old.width line.old.rest.now }
     ensures width { line.new.width ≡ line.old.width }
@@ -83,7 +83,8 @@ fn read_operands<'a>(mnemonic: Mnemonic, line: &mut Cursor<'a>) -> Option<Statem
     })
 }
 
-// An instruction or none, up to the end of the line.
+// An instruction or none, up to the end of the line. Every reader here answers `None` where it cannot read, and a line
+// may have no instruction: an enum for both would be an `Option` again.
 fn read_statement(mut line: Cursor<'_>) -> Option<Option<Statement<'_>>>
     ensures { option_map (option_map view_statement) result ≡ statement_in line.entry.width line.entry.rest.now }
 {

@@ -8,6 +8,7 @@ use encoding::instruction::Instruction;
 use std::alloc::{AllocError, Global};
 use std::fmt;
 
+// The header stands here as text; the assembler compares a byte string.
 #[derive(Clone, Copy)]
 struct Listing<'a>(&'a [Instruction]);
 
