@@ -1,11 +1,12 @@
 -- The numbers that a record is made of, in the order of its fields, and the numbers of the kinds of row.
 --   head_numbers, instruction_numbers, word_numbers, line_numbers, row_numbers  a record's numbers
+--   touch_in r                                                                  the touch that a row is, if it is one
 --   row_kind r                                                                  the kind of a row
 --   kind_number k                                                               the number of a kind of row
 --   Numbered n r                                                                r is the kind with number n, or an error that carries n, which no kind has
 --   Fit f r                                                                     every number of r, by f, is below 2 ^ 32
 --   same f a b                                                                  a and b have the same numbers, by f
-use Rattle.std.specs.Prelude.{◌≡◌, ℕ, ◌^◌, ◌<◌, Bool, true, false, ◌&&◌, List, [], ◌∷◌, ◌==◌, Result, MatchResult}
+use Rattle.std.specs.Prelude.{◌≡◌, ℕ, ◌^◌, ◌<◌, Bool, true, false, ◌&&◌, List, [], ◌∷◌, ◌==◌, Some, None, Option, Result, MatchResult}
 use Rattle.encoding.specs.declared.instruction.Instruction.{Instruction}
 use Rattle.dossier.specs.declared.record.Head.{Head}
 use Rattle.dossier.specs.declared.record.Line.{Line}
@@ -38,6 +39,14 @@ row_numbers (FromLine t) = 1 ∷ touch_numbers t
 row_numbers (FromStep t) = 2 ∷ touch_numbers t
 row_numbers (Advice w) = 3 ∷ w ∷ 0 ∷ 0 ∷ 0 ∷ 0 ∷ []
 row_numbers AdviceEnd = 4 ∷ 0 ∷ 0 ∷ 0 ∷ 0 ∷ 0 ∷ []
+
+-- what a row says of a touch
+abbrev pub touch_in : Row → Option Touch
+touch_in Plain = None
+touch_in (FromLine t) = Some t
+touch_in (FromStep t) = Some t
+touch_in (Advice w) = None
+touch_in AdviceEnd = None
 
 abbrev pub row_kind : Row → RowKind
 row_kind Plain = kind.Plain

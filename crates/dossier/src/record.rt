@@ -1,12 +1,12 @@
 // The records of a dossier.
 ghost use Rattle.std.specs.Prelude.{◌≡◌, ℕ, List};
 ghost use Rattle.std.proofs.Common.{rules};
-ghost use Rattle.dossier.specs.Numbers.{Numbered, row_kind, kind_number, same, head_numbers, instruction_numbers, word_numbers, line_numbers, row_numbers};
+ghost use Rattle.dossier.specs.Numbers.{Numbered, row_kind, kind_number, touch_in, same, head_numbers, instruction_numbers, word_numbers, line_numbers, row_numbers};
 
 use encoding::instruction::Instruction;
 
 // How long a dossier's four lists are, and the bound on the run's steps.
-#[derive(Clone, Copy, PartialEq, Default, Debug)]
+#[derive(Clone, Copy, PartialEq, Eq, Default, Debug)]
 pub struct Head {
     pub instructions: u32,
     pub words: u32,
@@ -16,7 +16,7 @@ pub struct Head {
 }
 
 // An opening line: a cell that the run touches, and the step of its first touch, counted from 1.
-#[derive(Clone, Copy, PartialEq, Default, Debug)]
+#[derive(Clone, Copy, PartialEq, Eq, Default, Debug)]
 pub struct Line {
     pub cell: u32,
     pub step: u32,
@@ -25,7 +25,7 @@ pub struct Line {
 // A touch: a load or a store of a cell, with the cell's value before and after the step.
 // `origin` leads back: to the cell's opening line, counted from 0, or to the step of the touch before.
 // `next` leads on: to the step of the following touch, or it is 0.
-#[derive(Clone, Copy, PartialEq, Default, Debug)]
+#[derive(Clone, Copy, PartialEq, Eq, Default, Debug)]
 pub struct Touch {
     pub cell: u32,
     pub before: u32,
@@ -35,7 +35,7 @@ pub struct Touch {
 }
 
 // What a step did that the log shows.
-#[derive(Clone, Copy, PartialEq, Debug)]
+#[derive(Clone, Copy, PartialEq, Eq, Debug)]
 pub enum Row {
     Plain,
     // the first touch of a cell; its origin is an opening line
@@ -59,6 +59,16 @@ pub enum RowKind {
 }
 
 impl Row {
+    // What the row says of a touch.
+    pub fn touch(&self) -> Option<Touch>
+        ensures { result ≡ touch_in self.now }
+    {
+        match *self {
+            Row::FromLine(touch) | Row::FromStep(touch) => Some(touch),
+            _ => None,
+        }
+    }
+
     pub fn kind(&self) -> RowKind
         ensures { result ≡ row_kind self.now }
     {

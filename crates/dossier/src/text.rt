@@ -66,11 +66,11 @@ impl fmt::Display for Refusal {
         let number = self.number();
         match *self {
             Refusal::Past { part, place } => {
-                let part = part as u32;
+                let part = u32::from(part);
                 write!(f, "refusal {number} part {part} place {place}")
             }
             Refusal::Unreadable(Fault { part, place, layer }) => {
-                let part = part as u32;
+                let part = u32::from(part);
                 write!(
                     f,
                     "refusal {number} part {part} place {place} layer {layer}"
