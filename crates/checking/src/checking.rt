@@ -54,6 +54,7 @@ impl<D: Dossier> Checking<D> {
                 *cpu = turn.check_row(&mut self.dossier, cpu, *ended, row)?;
                 *ended = *ended || row == Row::AdviceEnd;
             }
+            // a word has no rule; the item is of the kind that the stage takes, so no other pair comes
             _ => {}
         }
         Ok(())

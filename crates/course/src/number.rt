@@ -6,6 +6,8 @@ ghost use Rattle.course.specs.Numbers.{finding_number, finding_values, refused_n
 use rules::call::Refused;
 use rules::finding::Finding;
 
+// What has a number and values of 32 bits. The refusals of other crates tell theirs by methods of the same names: a
+// write returns 64 bits, and a run may be refused with no number.
 pub trait Numbered {
     ghost assigned: { Self → ℕ };
 
@@ -32,15 +34,25 @@ impl Numbered for Finding {
     }
 
     fn value(&self, place: usize) -> Option<u32> {
-        match (*self, place) {
-            (Finding::Broken { part, .. }, 0) => Some(part as u32),
-            (Finding::Broken { place, .. }, 1) => Some(place),
-            (Finding::Unreadable { part, .. }, 0) => Some(part as u32),
-            (Finding::Unreadable { place, .. }, 1) => Some(place),
-            (Finding::Unreadable { fault, .. }, 2) => Some(fault.part as u32),
-            (Finding::Unreadable { fault, .. }, 3) => Some(fault.place),
-            (Finding::Unreadable { fault, .. }, 4) => Some(fault.layer),
-            _ => None,
+        match *self {
+            Finding::Broken {
+                part,
+                place: at,
+                ..
+            } => [u32::from(part), at].get(place).copied(),
+            Finding::Unreadable {
+                part,
+                place: at,
+                fault,
+            } => [
+                u32::from(part),
+                at,
+                u32::from(fault.part),
+                fault.place,
+                fault.layer,
+            ]
+            .get(place)
+            .copied(),
         }
     }
 }

@@ -6,7 +6,7 @@ use dossier::record::Head;
 use rules::call::Outcome;
 use std::fmt;
 
-#[derive(Clone, Copy, PartialEq, Debug)]
+#[derive(Clone, Copy, PartialEq, Eq, Debug)]
 pub struct Receipt {
     pub head: Head,
     pub outcome: Outcome,

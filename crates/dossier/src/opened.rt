@@ -40,7 +40,8 @@ impl<D: Dossier> Opened<D> {
         self.head
     }
 
-    // The record of a kind at a place of its part.
+    // The record of a kind at a place of its part. Who asks says that the meaning stays, since asking takes `&mut self`: a
+    // holder may keep what it has read.
     pub fn ask<R: ListedRecord>(&mut self, place: u32) -> Result<R, Refusal>
         ensures same { self.new ≡ self.old }
         ensures answer { result ≡ item_answer R.ListedRecord.PART place (slice_get (R.ListedRecord.list self.old) place) }

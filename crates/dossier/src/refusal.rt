@@ -22,7 +22,7 @@ impl From<Part> for u32 {
     }
 }
 
-// An item that cannot be read, and the number of the layer that found it so.
+// An item that cannot be read, and the number of the layer that found it so: a number, since any crate may make a layer.
 #[derive(Clone, Copy, PartialEq, Eq, Debug)]
 pub struct Fault {
     pub part: Part,

@@ -63,6 +63,7 @@ fn arrange(mnemonic: Mnemonic, i: u8, j: u8, a: Operand) -> Option<Operation>
 }
 
 impl Instruction {
+    // Apart from `decode`, whose second promise is proved from the first.
     fn read(self) -> Option<Operation>
         ensures { result ≡ decoded self }
     {
@@ -84,6 +85,7 @@ impl Instruction {
         self.read()
     }
 
+    // Apart from `well_formed`, whose words are proved to be this test.
     fn is_readable(self) -> bool
         ensures { result ≡ is_some (decoded self) }
     {
@@ -102,8 +104,6 @@ impl Instruction {
     pub fn operation(self) -> Operation
         ensures { result ≡ meant self }
     {
-        self.decode().unwrap_or(Operation::Answer {
-            value: Operand::Immediate(1),
-        })
+        self.decode().unwrap_or(Operation::ANSWER_ONE)
     }
 }

@@ -15,7 +15,8 @@ pub enum Condition {
     UnlessFlag,
 }
 
-// `A`: a register's number, or the word itself.
+// `A`: a register's number, or the word itself. A register goes by its number, since it is an index into the machine's
+// registers wherever it is used; an enum of sixteen would be turned into that number at each use.
 #[derive(Clone, Copy, PartialEq, Eq, Debug)]
 pub enum Operand {
     Register(u8),
@@ -71,6 +72,13 @@ pub enum Operation {
     },
 }
 
+impl Operation {
+    // What the machine executes where there is no instruction, or one that is ill formed.
+    pub const ANSWER_ONE: Operation = Operation::Answer {
+        value: Operand::Immediate(1),
+    };
+}
+
 impl Operand {
     // Whether the register, if it is one, is one of the 16.
     fn is_named(self) -> bool
@@ -110,6 +118,7 @@ pub fn place(mnemonic: Mnemonic, i: u8, j: u8, a: Operand) -> Option<Instruction
 }
 
 impl Operation {
+    // Apart from `encode`, whose second promise is proved from the first.
     fn write(self) -> Option<Instruction>
         ensures { result ≡ encoded self }
     {

@@ -5,7 +5,7 @@ ghost use Rattle.machine.specs.State.{start, register_of, value_of, holds, advan
 use encoding::operation::{Condition, Operand};
 
 // The program counter, the registers, the flag, and how many primary words were read.
-#[derive(Clone, Copy, PartialEq, Eq, Debug)]
+#[derive(Clone, Copy, PartialEq, Eq, Default, Debug)]
 pub struct Cpu {
     pub pc: u32,
     pub registers: [u32; 16],
@@ -18,12 +18,7 @@ impl Cpu {
     pub fn start() -> Cpu
         ensures { result ≡ start }
     {
-        Cpu {
-            pc: 0,
-            registers: [0; 16],
-            flag: false,
-            place: 0,
-        }
+        Cpu::default()
     }
 
     // The word in register `i`. An instruction names no other than the 16.

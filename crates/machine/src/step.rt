@@ -5,7 +5,7 @@ ghost use Rattle.machine.specs.Laws.{Leaves, Frame};
 
 use crate::cpu::Cpu;
 use encoding::instruction::Instruction;
-use encoding::operation::{Operand, Operation};
+use encoding::operation::Operation;
 use word::cell::{load, store};
 use word::outcome::{Outcome, compare, compute, invert};
 
@@ -23,18 +23,11 @@ pub enum Demand {
     Halt(u32),
 }
 
-// What the machine executes where there is no instruction.
-const ANSWER_ONE: Operation = Operation::Answer {
-    value: Operand::Immediate(1),
-};
-
 // The operation of instruction number `pc`: past the program it is `answer 1`.
 pub fn fetch(program: &[Instruction], pc: u32) -> Operation
     ensures { result ≡ fetched program.now pc }
 {
-    program
-        .get(pc as usize)
-        .map_or(ANSWER_ONE, |instruction| instruction.operation())
+    program.get(pc as usize).map_or(Operation::ANSWER_ONE, |instruction| instruction.operation())
 }
 
 // What the operation asks of the outside.
@@ -56,6 +49,7 @@ pub fn asks(operation: Operation, cpu: &Cpu) -> Demand
     }
 }
 
+// Apart from `after`, whose second promise is proved from the first.
 fn leave(operation: Operation, cpu: &Cpu, before: u32) -> u32
     ensures { result ≡ left operation cpu.now before }
 {
@@ -97,6 +91,7 @@ fn receive(cpu: Cpu, to: u8, tape: u32, word: Option<u32>) -> Cpu
     }
 }
 
+// Apart from `execute`, whose second promise is proved from the first.
 fn perform(cpu: Cpu, operation: Operation, got: Option<u32>) -> Cpu
     ensures { result ≡ stepped operation got cpu }
 {

@@ -11,7 +11,8 @@ use rules::call::Refused;
 use rules::finding::{Finding, Rule};
 use rules::progress::{Progress, Stage};
 
-// The limits on the program, the primary words, the rows and the bound.
+// The limits on the program, the primary words, the rows and the bound. Crate `runner` has its own, which happen to have
+// the same numbers: neither crate is below the other.
 const INSTRUCTIONS: u32 = 4_096;
 
 const WORDS: u32 = 4_096;

@@ -5,7 +5,8 @@ ghost use Rattle.rules.specs.Text.{outcome_text};
 use crate::finding::Finding;
 use std::fmt;
 
-#[derive(Clone, Copy, PartialEq, Debug)]
+// The laws range over lists of these.
+#[derive(Clone, Copy, PartialEq, Eq, Debug)]
 pub enum Call {
     Advance(u32),
     Ask,
@@ -13,14 +14,14 @@ pub enum Call {
 
 // What an advance answers: the units that it was to take, or the finding at which it stopped.
 // In a `Result` within that of the call, a finding would read as a failure of the call, which it is not.
-#[derive(Clone, Copy, PartialEq, Debug)]
+#[derive(Clone, Copy, PartialEq, Eq, Debug)]
 pub enum Advanced {
     Took(u32),
     Found(Finding),
 }
 
 // Why an advance is refused.
-#[derive(Clone, Copy, PartialEq, Debug)]
+#[derive(Clone, Copy, PartialEq, Eq, Debug)]
 pub enum Refused {
     // refusal 3: by 0
     ByZero,
@@ -31,7 +32,7 @@ pub enum Refused {
 }
 
 // What a checking tells when it is asked: units taken and left, and the finding, if there is one.
-#[derive(Clone, Copy, PartialEq, Debug)]
+#[derive(Clone, Copy, PartialEq, Eq, Debug)]
 pub struct Report {
     pub taken: u32,
     pub left: u32,
@@ -39,7 +40,7 @@ pub struct Report {
 }
 
 // What a checking says when it is closed.
-#[derive(Clone, Copy, PartialEq, Debug)]
+#[derive(Clone, Copy, PartialEq, Eq, Debug)]
 pub enum Outcome {
     // with the number of steps
     Accepted(u32),

@@ -6,7 +6,7 @@ use dossier::refusal::{Fault, Part};
 use std::fmt;
 
 // The rules, by the numbers of their findings. Number 22 is an item that cannot be read.
-#[derive(Clone, Copy, PartialEq, Debug)]
+#[derive(Clone, Copy, PartialEq, Eq, Debug)]
 pub enum Rule {
     // there is a head
     Head = 20,
@@ -35,7 +35,7 @@ pub enum Rule {
 }
 
 // A finding tells the part and place of the unit that was to be taken.
-#[derive(Clone, Copy, PartialEq, Debug)]
+#[derive(Clone, Copy, PartialEq, Eq, Debug)]
 pub enum Finding {
     Broken {
         rule: Rule,
@@ -66,17 +66,17 @@ impl fmt::Display for Finding {
         match *self {
             Finding::Broken { rule, part, place } => {
                 let number = u8::from(rule);
-                let part = part as u8;
+                let part = u32::from(part);
                 write!(f, "{number} {part} {place}")
             }
             Finding::Unreadable { part, place, fault } => {
-                let part = part as u8;
+                let part = u32::from(part);
                 let Fault {
                     part: fault_part,
                     place: fault_place,
                     layer,
                 } = fault;
-                let fault_part = fault_part as u8;
+                let fault_part = u32::from(fault_part);
                 write!(
                     f,
                     "22 {part} {place} fault {fault_part} {fault_place} {layer}"

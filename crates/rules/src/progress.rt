@@ -5,7 +5,7 @@ use encoding::instruction::Instruction;
 use machine::cpu::Cpu;
 
 // What is taken and checked at once: an item, by its part and its place there.
-#[derive(Clone, Copy, PartialEq, Debug)]
+#[derive(Clone, Copy, PartialEq, Eq, Debug)]
 pub enum Unit {
     Instruction(u32),
     Word(u32),
@@ -14,7 +14,7 @@ pub enum Unit {
 }
 
 // An item that was read.
-#[derive(Clone, Copy, PartialEq, Debug)]
+#[derive(Clone, Copy, PartialEq, Eq, Debug)]
 pub enum Item {
     Instruction(Instruction),
     Word(u32),
@@ -23,7 +23,7 @@ pub enum Item {
 }
 
 // The kind of unit that is being taken, and what has to be kept from unit to unit.
-#[derive(Clone, Copy, PartialEq, Debug)]
+#[derive(Clone, Copy, PartialEq, Eq, Debug)]
 pub enum Stage {
     Instructions,
     Words,
@@ -33,8 +33,8 @@ pub enum Stage {
     Rows { cpu: Cpu, ended: bool },
 }
 
-// The head's numbers, or zeros without a head; units in all and taken; the stage; the finding, if there is one.
-#[derive(Clone, Copy, PartialEq, Debug)]
+// The head's numbers, or zeros without a head, which a receipt then prints; units in all and taken; the stage; the finding, if there is one.
+#[derive(Clone, Copy, PartialEq, Eq, Debug)]
 pub struct Progress {
     pub head: Head,
     pub total: u32,

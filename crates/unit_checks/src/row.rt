@@ -9,7 +9,7 @@ use dossier::opened::Opened;
 use dossier::questions::Dossier;
 use dossier::record::Row;
 use encoding::instruction::Instruction;
-use encoding::operation::{Operand, Operation};
+use encoding::operation::Operation;
 use machine::cpu::Cpu;
 use machine::step::{Demand, asks, execute};
 use rules::finding::Finding;
@@ -19,9 +19,8 @@ fn input_of(row: Row) -> Option<u32>
     ensures { result ≡ input_of row }
 {
     match row {
-        Row::FromLine(touch) | Row::FromStep(touch) => Some(touch.before),
         Row::Advice(word) => Some(word),
-        Row::Plain | Row::AdviceEnd => None,
+        _ => row.touch().map(|touch| touch.before),
     }
 }
 
@@ -39,9 +38,7 @@ impl Turn {
             let instruction = self.need(dossier.ask::<Instruction>(pc))?;
             Ok(instruction.operation())
         } else {
-            Ok(Operation::Answer {
-                value: Operand::Immediate(1),
-            })
+            Ok(Operation::ANSWER_ONE)
         }
     }
 

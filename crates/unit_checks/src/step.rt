@@ -23,10 +23,7 @@ pub(crate) struct Step {
 pub(crate) fn touch_of(row: Row) -> Touch
     ensures { result ≡ touch_of row }
 {
-    match row {
-        Row::FromLine(touch) | Row::FromStep(touch) => touch,
-        _ => Touch::default(),
-    }
+    row.touch().unwrap_or_default()
 }
 
 impl Step {

@@ -9,7 +9,7 @@ use rules::finding::{Finding, Rule};
 use rules::progress::{Stage, Unit};
 
 // The turn of a unit, under the head that says how long the dossier's lists are.
-#[derive(Clone, Copy, PartialEq, Debug)]
+#[derive(Clone, Copy, PartialEq, Eq, Debug)]
 pub struct Turn {
     pub head: Head,
     pub unit: Unit,

@@ -27,6 +27,7 @@ fn with_byte(cell: u32, address: u32, word: u32) -> u32
     u32::from_le_bytes(bytes)
 }
 
+// Apart from `store`, whose second promise is proved from the first.
 fn put(size: Size, address: u32, word: u32, cell: u32) -> u32
     ensures { result ≡ stored size address word cell }
 {

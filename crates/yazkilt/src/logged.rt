@@ -5,7 +5,7 @@ use dossier::record::{Row, Touch};
 use index::entry::CellEntry;
 use layers::pair::Pair;
 use runner::ending::Answered;
-pub use runner::job::Job;
+use runner::job::Job;
 use runner::run::run;
 use std::fmt;
 use table::holder::TableDossier;

@@ -8,8 +8,9 @@ mod world;
 use assembler::text::assemble;
 use encoding::instruction::Instruction;
 use fitting::{AUXILIARY, PRIMARY, SAMPLE, TEXT};
-use logged::{Job, log_run};
+use logged::log_run;
 use printer::listing::print_program;
+use runner::job::Job;
 use world::{Happened, World};
 
 // No run here takes more steps.
@@ -48,15 +49,15 @@ fn show(rt: &HostRuntime, happened: Happened, world: &World) -> anyhow::Result<(
     Ok(())
 }
 
-// Steps the machine until it answers, at most `BOUND` times.
-fn trace(rt: &HostRuntime, program: &[Instruction]) -> anyhow::Result<()> {
-    let listing = print_program(rt.alloc(), program)?;
-    let mut world = World::new(rt.alloc());
-    for step in 1..=BOUND {
+// Steps the machine until it answers, at most as often as the bound says.
+fn trace(rt: &HostRuntime, job: Job) -> anyhow::Result<()> {
+    let listing = print_program(rt.alloc(), job.program)?;
+    let mut world = World::new(rt.alloc(), job);
+    for step in 1..=job.bound {
         let pc = world.cpu.pc;
         let line = line_at(listing.as_str(), pc);
         print!(rt; "step {step} pc {pc}: {line}")?;
-        let happened = world.step(program, &PRIMARY, &AUXILIARY)?;
+        let happened = world.step()?;
         show(rt, happened, &world)?;
         if let Some(answer) = happened.answer {
             println!(rt; "answered {answer} in step {step}")?;
@@ -91,14 +92,14 @@ fn fit(rt: &HostRuntime) -> anyhow::Result<()> {
     let targets = PRIMARY.len();
     let measured = AUXILIARY.len();
     println!(rt; "program {length} primary {targets} auxiliary {measured}")?;
-    trace(rt, program)?;
-    println!(rt; "its log:")?;
     let job = Job {
         program,
         primary: &PRIMARY,
         auxiliary: &AUXILIARY,
         bound: BOUND,
     };
+    trace(rt, job)?;
+    println!(rt; "its log:")?;
     log_run(rt, job)
 }
 
@@ -116,11 +117,7 @@ fn sample(rt: &HostRuntime) -> anyhow::Result<()> {
     log_run(rt, job)
 }
 
-fn start(rt: &HostRuntime) -> anyhow::Result<()> {
-    sample(rt)?;
-    fit(rt)
-}
-
 fn main(rt: HostRuntime) -> anyhow::Result<()> {
-    start(&rt)
+    sample(&rt)?;
+    fit(&rt)
 }

@@ -1,8 +1,8 @@
 // A machine with its memory and its auxiliary tape.
-use encoding::instruction::Instruction;
 use encoding::operation::Operation;
 use machine::cpu::Cpu;
 use machine::step::{Demand, after, asks, execute, fetch};
+use runner::job::Job;
 use std::alloc::{AllocError, Global};
 use std::collections::BTreeMap;
 
@@ -37,28 +37,30 @@ impl Happened {
     }
 }
 
-// The state of the machine, its memory by cells, and how many auxiliary words were read.
+// What the machine was given, its state, its memory by cells, and the auxiliary words that are left.
 #[derive(Drop)]
-pub struct World {
+pub struct World<'a> {
+    job: Job<'a>,
     pub cpu: Cpu,
     memory: BTreeMap<u32, u32>,
-    heard: usize,
+    unread: &'a [u32],
 }
 
-impl World {
+impl<'a> World<'a> {
     // All is 0 at the start.
-    pub(crate) fn new(heap: Global) -> World {
+    pub(crate) fn new(heap: Global, job: Job<'a>) -> World<'a> {
         World {
+            job,
             cpu: Cpu::start(),
             memory: BTreeMap::new(heap),
-            heard: 0,
+            unread: job.auxiliary,
         }
     }
 
-    fn next_advice(&mut self, auxiliary: &[u32]) -> Option<u32> {
-        let word = auxiliary.get(self.heard).copied();
-        self.heard = self.heard.saturating_add(1);
-        word
+    fn next_advice(&mut self) -> Option<u32> {
+        let (word, unread) = self.unread.split_first()?;
+        self.unread = unread;
+        Some(*word)
     }
 
     fn touch(&mut self, operation: Operation, cell: u32) -> Result<Access, AllocError> {
@@ -72,13 +74,8 @@ impl World {
         })
     }
 
-    pub(crate) fn step(
-        &mut self,
-        program: &[Instruction],
-        primary: &[u32],
-        auxiliary: &[u32],
-    ) -> Result<Happened, AllocError> {
-        let operation = fetch(program, self.cpu.pc);
+    pub(crate) fn step(&mut self) -> Result<Happened, AllocError> {
+        let operation = fetch(self.job.program, self.cpu.pc);
         let mut happened = Happened {
             operation,
             touch: None,
@@ -91,8 +88,8 @@ impl World {
                 happened.touch = Some(access);
                 Some(access.before)
             }
-            Demand::Primary => primary.get(self.cpu.place as usize).copied(),
-            Demand::Advice => self.next_advice(auxiliary),
+            Demand::Primary => self.job.primary.get(self.cpu.place as usize).copied(),
+            Demand::Advice => self.next_advice(),
             Demand::Halt(answer) => {
                 happened.answer = Some(answer);
                 None
