@@ -1,7 +1,6 @@
 // The words and marks of a line.
 ghost use Rattle.std.specs.Prelude.{◌≡◌, ◌<◌, length, drop, slice_get, slice_index};
-ghost use Rattle.std.specs.Option.{option_copied};
-ghost use Rattle.lexer.specs.Tokens.{seen, token_at, kind_of, rest_of, token_in, rest_in, after_mark};
+ghost use Rattle.lexer.specs.Tokens.{seen, token_at, kind_of, rest_of, token_in, rest_in};
 
 use crate::class::{Class, cut};
 
@@ -23,13 +22,6 @@ pub enum Token<'a> {
     // the end of the line, or a comment, which lasts until there
     End(usize),
     Unknown(usize),
-}
-
-// What follows an ASCII character that stands at the very front.
-pub fn after_mark(s: &str, mark: char) -> Option<&str>
-    ensures { 0 < mark → mark < 128 → option_copied result ≡ after_mark mark s.now }
-{
-    s.strip_prefix(mark)
 }
 
 // The byte at a place as a character.

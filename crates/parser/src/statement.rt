@@ -6,7 +6,7 @@ ghost use Rattle.parser.specs.Statements.{view_pair, pair_in, reversed_in, view_
 
 use crate::operand::{Argument, is_end, is_label, read_comma, read_operand, read_register};
 use encoding::mnemonic::Mnemonic;
-use lexer::token::{Cursor, Token, Word, after_mark};
+use lexer::token::{Cursor, Token, Word};
 use mnemonics::name::mnemonic_of;
 
 // An instruction as it is written. A register that it does not have is 0, as in its encoding.
@@ -100,6 +100,7 @@ fn read_statement(mut line: Cursor<'_>) -> Option<Option<Statement<'_>>>
 }
 
 // A line, or `None` where it cannot be read.
+#[tactic(auto, using(crate::proofs::Marks::stripped, crate::proofs::Marks::unmarked))]
 pub fn read_line(line: &str) -> Option<Line<'_>>
     ensures { option_map view_line result ≡ line_in line.now }
 {
@@ -109,7 +110,7 @@ pub fn read_line(line: &str) -> Option<Line<'_>>
             if !is_label(word.text) {
                 return None;
             }
-            let rest = after_mark(cursor.rest, ':')?;
+            let rest = cursor.rest.strip_prefix(':')?;
             let statement = read_statement(Cursor { rest, ..cursor })?;
             Some(Line {
                 label: Some(word),
