@@ -1,7 +1,7 @@
 // A line: a label, an instruction and a comment, each optional.
 ghost use Rattle.std.specs.Prelude.{◌≡◌};
 ghost use Rattle.std.specs.Option.{option_map};
-ghost use Rattle.parser.specs.Operands.{left};
+ghost use Rattle.parser.specs.Operands.{left, Reads};
 ghost use Rattle.parser.specs.Statements.{view_pair, pair_in, reversed_in, view_statement, view_line, operands_in, statement_in, line_in};
 
 use crate::operand::{Argument, is_end, is_label, read_comma, read_operand, read_register};
@@ -26,8 +26,7 @@ pub struct Line<'a> {
 
 // Takes `ri, A`.
 fn read_pair<'a>(line: &mut Cursor<'a>) -> Option<(u8, Argument<'a>)>
-    ensures value { left view_pair result line.new ≡ pair_in line.old.width line.old.rest.now }
-    ensures width { line.new.width ≡ line.old.width }
+    ensures { Reads pair_in view_pair result line.old line.new }
 {
     let register = read_register(line)?;
     read_comma(line)?;
@@ -37,8 +36,7 @@ fn read_pair<'a>(line: &mut Cursor<'a>) -> Option<(u8, Argument<'a>)>
 
 // Takes `A, ri`: the same two in the other order, which no parameter would make plainer.
 fn read_reversed<'a>(line: &mut Cursor<'a>) -> Option<(u8, Argument<'a>)>
-    ensures value { left view_pair result line.new ≡ reversed_in line.old.width line.old.rest.now }
-    ensures width { line.new.width ≡ line.old.width }
+    ensures { Reads reversed_in view_pair result line.old line.new }
 {
     let operand = read_operand(line)?;
     read_comma(line)?;
