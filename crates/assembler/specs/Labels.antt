@@ -25,10 +25,10 @@ found name ls = option_map (λ l. l.1) (find (λ l. bytes_eq l.0 name) ls)
 
 pub record Known : Type 0 where
   pub labels : List (List ℕ × ℕ)
-  pub count : ℕ
+  pub instructions : ℕ
 
 abbrev pub summary : declared.Labels → Known
-summary t = record { labels = known t; count = t.count }
+summary t = record { labels = known t; instructions = t.instructions }
 
 abbrev pub none : Known
-none = record { labels = []; count = 0 }
+none = record { labels = []; instructions = 0 }

@@ -29,14 +29,17 @@ gathered (Err e) = Err e
 abbrev pub defined : Known → ℕ → List ℕ → Result Known AssemblyError
 defined k n w =
     cond (is_some (found w k.labels)) (Err (Redefined n))
-    (cond (nat_lt (length k.labels) 256) (Ok (record { labels = k.labels ++ (w, k.count) ∷ []; count = k.count })) (Err (TooMany n)))
+    (cond (nat_lt (length k.labels) 256) (Ok (record { labels = k.labels ++ (w, k.instructions) ∷ []; instructions = k.instructions })) (Err (TooMany n)))
 
 abbrev pub labelled : Known → ℕ → Option LabelView → Result Known AssemblyError
 labelled k n (Some w) = defined k n w.text
 labelled k n None = Ok k
 
+abbrev pub tallied : Known → ℕ → Result Known AssemblyError
+tallied k n = cond (nat_lt k.instructions 4096) (Ok (record { labels = k.labels; instructions = k.instructions + 1 })) (Err (TooMany n))
+
 abbrev pub counted : Known → ℕ → Bool → Result Known AssemblyError
-counted k n true = cond (nat_lt k.count 4096) (Ok (record { labels = k.labels; count = k.count + 1 })) (Err (TooMany n))
+counted k n true = tallied k n
 counted k n false = Ok k
 
 abbrev pub stepped_by : Known → ℕ → Option LineView → Result Known AssemblyError

@@ -3,7 +3,7 @@ ghost use Rattle.std.specs.Prelude.{◌≡◌};
 ghost use Rattle.assembler.specs.Errors.{refusal_of};
 
 // Lines are counted from 1, the header among them.
-#[derive(Clone, Copy, PartialEq, Debug)]
+#[derive(Clone, Copy, PartialEq, Eq, Debug)]
 pub enum AssemblyError {
     // the first line is not the header
     Header,
@@ -19,8 +19,9 @@ pub enum AssemblyError {
     TableTooShort(usize),
 }
 
-// A refusal by its number, and what is returned with it.
-#[derive(Clone, Copy, PartialEq, Debug)]
+// A refusal by its number, and what is returned with it: one number at each of the six, so a struct of its own, and no
+// type or trait of the crate `dossier`, which is not below this one.
+#[derive(Clone, Copy, PartialEq, Eq, Debug)]
 pub struct Refusal {
     pub number: u8,
     pub value: usize,

@@ -16,7 +16,7 @@ pub struct Label<'a> {
 #[derive(Default, Drop)]
 pub struct Labels<'a> {
     pub labels: ArrayVec<Label<'a>, 256>,
-    pub count: u32,
+    pub instructions: u32,
 }
 
 impl<'a> Labels<'a> {

@@ -6,7 +6,6 @@ ghost use Rattle.assembler.specs.Program.{program, counting};
 
 use crate::error::AssemblyError;
 use crate::labels::Labels;
-use crate::resolve::Undefined;
 use encoding::instruction::Instruction;
 use lexer::lines::Lines;
 
@@ -18,10 +17,11 @@ impl Labels<'_> {
     {
         let mut needed = 0;
         for (i, line) in Lines(text).enumerate() {
-            match self.instruction_in(line) {
-                Ok(Some(_)) => needed += 1,
-                Ok(None) => {}
-                Err(Undefined) => return Err(AssemblyError::Undefined(2 + i)),
+            let instruction = self
+                .instruction_in(line)
+                .map_err(|_| AssemblyError::Undefined(2 + i))?;
+            if instruction.is_some() {
+                needed += 1;
             }
         }
         Ok(needed)

@@ -42,6 +42,7 @@ impl Labels<'_> {
     pub(crate) fn instruction_in(&self, line: &str) -> Result<Option<Instruction>, Undefined>
         ensures { result ≡ line_gives (known self.now) line.now }
     {
+        // tried: `.map(..).transpose()`. What the closures give did not meet the definition, which goes by the cases of a line
         match read_line(line).and_then(|parts| parts.statement) {
             Some(statement) => Ok(Some(self.encode(statement).ok_or(Undefined)?)),
             None => Ok(None),

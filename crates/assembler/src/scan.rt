@@ -1,10 +1,8 @@
 // The first pass: the labels, the count of instructions, and the refusals of single lines.
 ghost use Rattle.std.specs.Prelude.{◌≡◌};
-ghost use Rattle.std.specs.Option.{option_map};
 ghost use Rattle.lexer.specs.Lines.{lines};
-ghost use Rattle.parser.specs.Statements.{view_label};
 ghost use Rattle.assembler.specs.Labels.{summary, none};
-ghost use Rattle.assembler.specs.Scan.{outcome, gathered, labelled, counted, stepped, scanned};
+ghost use Rattle.assembler.specs.Scan.{outcome, gathered, defined, tallied, stepped, scanned};
 
 use crate::error::AssemblyError;
 use crate::labels::{Label, Labels};
@@ -13,38 +11,32 @@ use lexer::token::Word;
 use parser::statement::read_line;
 
 impl<'a> Labels<'a> {
-    // Takes the label of line `n`, if it has one.
-    fn define(&mut self, label: Option<Word<'a>>, n: usize) -> Result<(), AssemblyError>
-        ensures { outcome result self.new ≡ labelled (summary self.old) n (option_map view_label label.entry) }
+    // Takes the label of line `n`.
+    fn define(&mut self, label: Word<'a>, n: usize) -> Result<(), AssemblyError>
+        ensures { outcome result self.new ≡ defined (summary self.old) n label.entry.text.now }
     {
-        let Some(word) = label else {
-            return Ok(());
-        };
-        if self.find(word.text).is_some() {
+        if self.find(label.text).is_some() {
             return Err(AssemblyError::Redefined(n));
         }
         if self.labels.is_full() {
             return Err(AssemblyError::TooMany(n));
         }
-        let number = self.count;
+        let number = self.instructions;
         self.labels.push(Label {
-            name: word.text,
+            name: label.text,
             number,
         });
         Ok(())
     }
 
-    // Counts the instruction of line `n`, if it has one.
-    fn tally(&mut self, some: bool, n: usize) -> Result<(), AssemblyError>
-        ensures { outcome result self.new ≡ counted (summary self.old) n some }
+    // Counts the instruction of line `n`.
+    fn tally(&mut self, n: usize) -> Result<(), AssemblyError>
+        ensures { outcome result self.new ≡ tallied (summary self.old) n }
     {
-        if !some {
-            return Ok(());
-        }
-        if self.count >= 4096 {
+        if self.instructions >= 4096 {
             return Err(AssemblyError::TooMany(n));
         }
-        self.count += 1;
+        self.instructions += 1;
         Ok(())
     }
 
@@ -55,8 +47,13 @@ impl<'a> Labels<'a> {
         let Some(parts) = read_line(line) else {
             return Err(AssemblyError::Unreadable(n));
         };
-        self.define(parts.label, n)?;
-        self.tally(parts.statement.is_some(), n)
+        if let Some(label) = parts.label {
+            self.define(label, n)?;
+        }
+        if parts.statement.is_some() {
+            self.tally(n)?;
+        }
+        Ok(())
     }
 
     // What the lines of a text define, of which the first is line 2.

@@ -1,7 +1,6 @@
 // The words and marks of a line.
-ghost use Rattle.std.specs.Prelude.{◌≡◌, ◌<◌, length, drop, slice_index};
-ghost use Rattle.std.specs.Option.{option_copied};
-ghost use Rattle.lexer.specs.Tokens.{seen, token_at, kind_of, rest_of, token_in, rest_in, after_mark};
+ghost use Rattle.std.specs.Prelude.{◌≡◌, ◌<◌, length, drop, slice_get, slice_index};
+ghost use Rattle.lexer.specs.Tokens.{seen, token_at, kind_of, rest_of, token_in, rest_in};
 
 use crate::class::{Class, cut};
 
@@ -25,23 +24,16 @@ pub enum Token<'a> {
     Unknown(usize),
 }
 
-// What follows an ASCII character that stands at the very front.
-pub fn after_mark(s: &str, mark: char) -> Option<&str>
-    ensures { 0 < mark → mark < 128 → option_copied result ≡ after_mark mark s.now }
+// The byte at a place as a character.
+fn char_at(s: &str, place: usize) -> Option<char>
+    ensures { result ≡ slice_get s.now place }
 {
-    s.strip_prefix(mark)
-}
-
-// The byte at a place as a character, and NUL past the end.
-fn char_at(s: &str, place: usize) -> char
-    ensures { result ≡ slice_index s.now place }
-{
-    s.as_bytes().get(place).map_or('\0', |b| char::from(*b))
+    s.as_bytes().get(place).copied().map(char::from)
 }
 
 // What follows an ASCII character.
 fn skip(s: &str) -> &str
-    requires { (0 < slice_index s.now 0) × (slice_index s.now 0 < 128) }
+    requires { (0 < length s.now) × (slice_index s.now 0 < 128) }
     ensures { result.now ≡ drop 1 s.now }
 {
     &s[1..]
@@ -55,14 +47,13 @@ fn first_token(s: &str, place: usize) -> (Token<'_>, &str)
     let (text, rest) = cut(s, Class::Word);
     let word = Word { text, place };
     match (char_at(s, 0), char_at(s, 1)) {
-        ('_', _) => (Token::Label(word), rest),
-        ('-' | '0'..='9', _) => (Token::Integer(word), rest),
-        ('r', '0'..='9') => (Token::Register(word), rest),
-        ('a'..='z', _) => (Token::Mnemonic(word), rest),
-        (':', _) => (Token::Colon(place), skip(s)),
-        (',', _) => (Token::Comma(place), skip(s)),
-        (';', _) => (Token::End(place), s),
-        _ if s.is_empty() => (Token::End(place), s),
+        (Some('_'), _) => (Token::Label(word), rest),
+        (Some('-' | '0'..='9'), _) => (Token::Integer(word), rest),
+        (Some('r'), Some('0'..='9')) => (Token::Register(word), rest),
+        (Some('a'..='z'), _) => (Token::Mnemonic(word), rest),
+        (Some(':'), _) => (Token::Colon(place), skip(s)),
+        (Some(','), _) => (Token::Comma(place), skip(s)),
+        (Some(';') | None, _) => (Token::End(place), s),
         _ => (Token::Unknown(place), s),
     }
 }

@@ -7,9 +7,10 @@
 --   comma_in bs       what follows a comma
 --   ended bs          nothing follows but blanks and a comment
 --   left view r line  what a call answers, with what it leaves of the line
+--   Reads f view r b a  the call answers what f says of the line b before it; a is the line after it
 --   and_then r f      what f makes of the value of r
 -- Assumes nothing.
-use Rattle.std.specs.Prelude.{ℕ, Bool, true, false, cond, ◌&&◌, List, length, Some, None, Option, ◌==◌, nat_lt}
+use Rattle.std.specs.Prelude.{◌≡◌, ℕ, Bool, true, false, cond, ◌&&◌, List, length, Some, None, Option, ◌==◌, nat_lt}
 use Rattle.std.specs.Option.{option_map}
 use Rattle.lexer.specs.declared.class.Class.TheVariants.{Name}
 use Rattle.lexer.specs.Classes.{past}
@@ -31,6 +32,10 @@ view_argument (argument.Label w) = named w.text.now w.place
 
 abbrev pub left : {A B : Type 0} → (A → B) → Option A → Cursor → Option (B × List ℕ)
 left view r line = option_map (λ x. (view x, line.rest.now)) r
+
+-- a call answers what f says of the line before it, whose width stays
+abbrev pub Reads : {A B : Type 0} → (ℕ → List ℕ → Option (B × List ℕ)) → (A → B) → Option A → Cursor → Cursor → Type 0
+Reads f view r before after = (left view r after ≡ f before.width before.rest.now) × (after.width ≡ before.width)
 
 abbrev pub and_then : {A B : Type 0} → Option A → (A → Option B) → Option B
 and_then (Some x) f = f x

@@ -3,7 +3,6 @@ ghost use Rattle.std.specs.Prelude.{◌≡◌};
 ghost use Rattle.parser.specs.Numbers.{register_of, numeral, digits_of, integer_of};
 
 use lexer::class::{Class, cut};
-use lexer::token::after_mark;
 
 // `r0` to `r15`.
 pub(crate) fn register_of(text: &str) -> Option<u8>
@@ -37,10 +36,11 @@ fn digits_of(text: &str) -> Option<u32>
 }
 
 // The value modulo 2^32 of 1 to 10 digits after an optional minus.
+#[tactic(auto, using(crate::proofs::Marks::stripped, crate::proofs::Marks::unmarked))]
 pub(crate) fn integer_of(text: &str) -> Option<u32>
     ensures { result ≡ integer_of text.now }
 {
-    match after_mark(text, '-') {
+    match text.strip_prefix('-') {
         Some(digits) => digits_of(digits).map(u32::wrapping_neg),
         None => digits_of(text),
     }

@@ -2,7 +2,7 @@
 ghost use Rattle.std.specs.Prelude.{◌≡◌};
 ghost use Rattle.std.specs.Option.{option_map};
 ghost use Rattle.lexer.specs.Tokens.{seen};
-ghost use Rattle.parser.specs.Operands.{view_argument, label, argument_of, left, comma_in, ended, operand_in, register_in};
+ghost use Rattle.parser.specs.Operands.{view_argument, label, argument_of, Reads, comma_in, ended, operand_in, register_in};
 
 use crate::number::{integer_of, register_of};
 use lexer::class::{Class, cut};
@@ -52,16 +52,14 @@ pub(crate) fn is_end(mut line: Cursor<'_>) -> bool
 
 // Takes `A`.
 pub(crate) fn read_operand<'a>(line: &mut Cursor<'a>) -> Option<Argument<'a>>
-    ensures value { left view_argument result line.new ≡ operand_in line.old.width line.old.rest.now }
-    ensures width { line.new.width ≡ line.old.width }
+    ensures { Reads operand_in view_argument result line.old line.new }
 {
     argument_of(line.next_token())
 }
 
 // Takes a register, and answers its number.
 pub(crate) fn read_register(line: &mut Cursor<'_>) -> Option<u8>
-    ensures value { left (λ n. n) result line.new ≡ register_in line.old.width line.old.rest.now }
-    ensures width { line.new.width ≡ line.old.width }
+    ensures { Reads register_in (λ n. n) result line.old line.new }
 {
     match read_operand(line)? {
         Argument::Register(n) => Some(n),

@@ -1,12 +1,12 @@
 // A line: a label, an instruction and a comment, each optional.
 ghost use Rattle.std.specs.Prelude.{◌≡◌};
 ghost use Rattle.std.specs.Option.{option_map};
-ghost use Rattle.parser.specs.Operands.{left};
+ghost use Rattle.parser.specs.Operands.{left, Reads};
 ghost use Rattle.parser.specs.Statements.{view_pair, pair_in, reversed_in, view_statement, view_line, operands_in, statement_in, line_in};
 
 use crate::operand::{Argument, is_end, is_label, read_comma, read_operand, read_register};
 use encoding::mnemonic::Mnemonic;
-use lexer::token::{Cursor, Token, Word, after_mark};
+use lexer::token::{Cursor, Token, Word};
 use mnemonics::name::mnemonic_of;
 
 // An instruction as it is written. A register that it does not have is 0, as in its encoding.
@@ -26,8 +26,7 @@ pub struct Line<'a> {
 
 // Takes `ri, A`.
 fn read_pair<'a>(line: &mut Cursor<'a>) -> Option<(u8, Argument<'a>)>
-    ensures value { left view_pair result line.new ≡ pair_in line.old.width line.old.rest.now }
-    ensures width { line.new.width ≡ line.old.width }
+    ensures { Reads pair_in view_pair result line.old line.new }
 {
     let register = read_register(line)?;
     read_comma(line)?;
@@ -37,8 +36,7 @@ fn read_pair<'a>(line: &mut Cursor<'a>) -> Option<(u8, Argument<'a>)>
 
 // Takes `A, ri`: the same two in the other order, which no parameter would make plainer.
 fn read_reversed<'a>(line: &mut Cursor<'a>) -> Option<(u8, Argument<'a>)>
-    ensures value { left view_pair result line.new ≡ reversed_in line.old.width line.old.rest.now }
-    ensures width { line.new.width ≡ line.old.width }
+    ensures { Reads reversed_in view_pair result line.old line.new }
 {
     let operand = read_operand(line)?;
     read_comma(line)?;
@@ -100,6 +98,7 @@ fn read_statement(mut line: Cursor<'_>) -> Option<Option<Statement<'_>>>
 }
 
 // A line, or `None` where it cannot be read.
+#[tactic(auto, using(crate::proofs::Marks::stripped, crate::proofs::Marks::unmarked))]
 pub fn read_line(line: &str) -> Option<Line<'_>>
     ensures { option_map view_line result ≡ line_in line.now }
 {
@@ -109,7 +108,7 @@ pub fn read_line(line: &str) -> Option<Line<'_>>
             if !is_label(word.text) {
                 return None;
             }
-            let rest = after_mark(cursor.rest, ':')?;
+            let rest = cursor.rest.strip_prefix(':')?;
             let statement = read_statement(Cursor { rest, ..cursor })?;
             Some(Line {
                 label: Some(word),

@@ -41,7 +41,7 @@ module _ (n : encoding.Instruction) (f : well_formed n ≡ true) (s : n.second <
   line_plain : list_all (belongs Line) (line_of n) ≡ true
   line_plain = plain_of (meant n) n says s
 
-  line_steps : (k : Known) (at : ℕ) → ltb k.count 4096 ≡ true → stepped k at (line_of n) ≡ Ok (record { labels = k.labels; count = k.count + 1 })
+  line_steps : (k : Known) (at : ℕ) → ltb k.instructions 4096 ≡ true → stepped k at (line_of n) ≡ Ok (record { labels = k.labels; instructions = k.instructions + 1 })
   line_steps k at room = ap (stepped_by k at) (line_of_lem (meant n) n says s) ∙ (rw room refl)
 
   line_gives_lem : line_gives [] (line_of n) ≡ Ok (Some n)
@@ -71,7 +71,7 @@ lines_listing (n ∷ p) h =
 -- THE PASSES
 
 abbrev bare : ℕ → Known
-bare c = record { labels = []; count = c }
+bare c = record { labels = []; instructions = c }
 
 scan_all : (p : List encoding.Instruction) (at c : ℕ) → Printable p → c + length p ≤ 4096 → scanned at (bare c) (map line_of p) ≡ Ok (bare (c + length p))
 scan_all [] at c h l = ap (λ x. Ok (bare x)) (omega arith)

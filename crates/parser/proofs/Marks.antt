@@ -1,10 +1,11 @@
-use Rattle.std.proofs.Common.{◌≡◌, ◌≢◌, ℕ, ◌<◌, List, [], ◌∷◌, Some, None, Option, Bor, refl, ap, eq-eqb, arith}
+-- What `strip_prefix` leaves of a text behind a character of one byte. Assumes nothing.
+use Rattle.std.proofs.Common.{◌≡◌, ◌≢◌, ℕ, ◌+◌, ◌<◌, List, [], ◌∷◌, length, drop, Some, None, Option, Bor, refl, sym, ap, eq-eqb, arith}
 use Rattle.std.specs.Prelude.{MatchOption}
+use Rattle.std.specs.Option.{option_copied}
+use Rattle.std.specs.Str.Pattern.{FindsCharPrefix}
 use Rattle.std.proofs.lemmas.Bool.Decides.{nat_tests}
 use Rattle.std.proofs.lemmas.Str.Pattern.{strip_prefix_char}
-use Rattle.std.specs.Option.{option_copied}
 use Rattle.lexer.specs.Tokens.{after_mark}
-use Rattle.lexer.proofs.token.after_mark.Goals as goal
 
 differs : (c : ℕ) (bs : List ℕ) → 0 < c → ((rest : List ℕ) → bs ≢ c ∷ rest) → None ≡ after_mark c bs
 differs c [] some h = grind (arith, nat_tests)
@@ -21,5 +22,8 @@ from_cases : (c : ℕ) (bs : List ℕ) (r : Option (Bor (List ℕ))) → 0 < c �
 from_cases c bs None some h = differs c bs some h
 from_cases c bs (Some x) some h = same c bs x.now h
 
-pub returns : goal.returns
-returns c = λ some low. from_cases c.args.mark c.args.s.now _ some (strip_prefix_char c.args.mark c.args.s.now _ c.strip_prefix.ensures.cases low)
+pub stripped : (c : ℕ) (bs : List ℕ) (r : Option (Bor (List ℕ))) → MatchOption r (FindsCharPrefix c bs None) (λ x. (n : ℕ) × FindsCharPrefix c bs (Some n) × (x.now ≡ drop n bs) × (length x.now + n ≡ length bs)) → 0 < c → c < 128 → option_copied r ≡ after_mark c bs
+stripped c bs r h some low = from_cases c bs r some (strip_prefix_char c bs r h low)
+
+pub unmarked : (c : ℕ) (bs : List ℕ) → FindsCharPrefix c bs None → 0 < c → c < 128 → after_mark c bs ≡ None
+unmarked c bs h some low = sym (stripped c bs None h some low)
