@@ -2,14 +2,16 @@
 -- is in `Tree`.
 --
 --   `FindsIn es c r`   r is the number of the entry of cell c, if it has one
---   `Opens x e r y`    y is x with an entry for the cell of e: r is its number, and it is e if there was none; r is none if there
---                      was none and there is no room
+--   `Opens x e r y`    y is x with an entry for the cell of e: r is its number, as new, where there was none and it is e, or as
+--                      known; r is none if there was none and there is no room
 --   `Keeps x`          the links of x are the tree of its entries, and there is room for as many as its limit
 --
 -- Assumes nothing.
-use Rattle.std.specs.Prelude.{◌≡◌, ℕ, ◌+◌, ◌<◌, ◌≤◌, ◌⊎◌, List, [], ◌∷◌, ◌++◌, length, Some, None, Option, vec_items, vec_capacity}
+use Rattle.std.specs.Prelude.{◌≡◌, ℕ, ◌+◌, ◌<◌, ◌≤◌, List, [], ◌∷◌, ◌++◌, length, Some, None, Option, vec_items, vec_capacity}
 use Rattle.index.specs.declared.entry.CellEntry.{CellEntry}
 use Rattle.index.specs.declared.map.CellMap.TheInside.{Inside}
+use Rattle.index.specs.declared.map.Entered.{Entered}
+use Rattle.index.specs.declared.map.Entered.TheVariants.{New, Known}
 use Rattle.index.specs.Cells.{Cells, cell_of, Absent}
 use Rattle.index.specs.Tree.{Room, Kept}
 
@@ -17,10 +19,10 @@ abbrev pub FindsIn : List CellEntry → ℕ → Option ℕ → Type 0
 FindsIn es c (Some k) = (k < length es) × (cell_of es k ≡ c)
 FindsIn es c None = Absent es c
 
-abbrev pub Opens : Cells → CellEntry → Option ℕ → Cells → Type 0
-Opens x e (Some k) y =
-    (FindsIn x.entries e.cell (Some k) × (y ≡ x))
-    ⊎ (Absent x.entries e.cell × (k ≡ length x.entries) × (y ≡ record { entries = x.entries ++ e ∷ []; limit = x.limit }))
+abbrev pub Opens : Cells → CellEntry → Option Entered → Cells → Type 0
+Opens x e (Some (Known k)) y = FindsIn x.entries e.cell (Some k) × (y ≡ x)
+Opens x e (Some (New k)) y =
+    Absent x.entries e.cell × (k ≡ length x.entries) × (y ≡ record { entries = x.entries ++ e ∷ []; limit = x.limit })
 Opens x e None y = Absent x.entries e.cell × (length x.entries ≡ x.limit) × (y ≡ x)
 
 pub record Keeps (x : Inside) : Type 0 where

@@ -12,6 +12,13 @@ use crate::entry::CellEntry;
 use std::alloc::{AllocError, Global};
 use std::marker::Model;
 
+// The number of a cell's entry, and whether the cell had it before.
+#[derive(Clone, Copy, PartialEq, Eq, Debug)]
+pub enum Entered {
+    New(usize),
+    Known(usize),
+}
+
 // The entries by number, and the links between them. A slot of `links` holds 0, or one more than the number of an entry.
 // The first `limit + 1` slots are by the cell's lowest digit; entry k has the four slots from `limit + 1 + 4 * k` on,
 // by its next digit. `Option<u32>` in place of the 0 was tried: it takes twice the room, and to make the links and open
@@ -65,14 +72,14 @@ impl CellMap {
         search(&self.entries, &self.links, self.limit + 1, cell).ok()
     }
 
-    // The number of the entry of this entry's cell, which is this one with the next number where there was none;
-    // or `None` where there is no room for it.
-    pub fn open(&mut self, entry: CellEntry) -> Option<usize>
+    // The entry of this entry's cell, which is this one with the next number where there was none; or `None` where there
+    // is no room for it.
+    pub fn open(&mut self, entry: CellEntry) -> Option<Entered>
         ensures opens { Opens self.old entry result self.new }
         ensures apart { Apart self.new.entries }
     {
         match search(&self.entries, &self.links, self.limit + 1, entry.cell) {
-            Ok(number) => Some(number),
+            Ok(number) => Some(Entered::Known(number)),
             Err(slot) => {
                 let number = self.entries.len();
                 if number == self.limit {
@@ -80,7 +87,7 @@ impl CellMap {
                 }
                 self.entries.push(entry).ok()?;
                 self.links[slot] = number as u32 + 1;
-                Some(number)
+                Some(Entered::New(number))
             }
         }
     }
@@ -116,6 +123,7 @@ impl CellMap {
 }
 
 // Where the search for a cell ends: at the number of its entry, or at the slot that an entry for it would take.
+// It is no method, since a method's contract sees only the entries of the map, and this one speaks of the links.
 fn search(entries: &[CellEntry], links: &[u32], roots: usize, cell: u32) -> Result<usize, usize>
     requires { Kept roots links.now entries.now }
     ensures { Finds roots links.now entries.now cell result }

@@ -1,8 +1,9 @@
--- A test that holds of each number below n, one after the other.
+-- A test that holds of each number below n, or of each element of a list, one after the other.
 -- Assumes nothing.
-use Rattle.std.proofs.Common.{◌≡◌, ℕ, ◌<◌, eqb, zero-add, Decides, refl, arith}
-use Rattle.std.specs.List.{range_with_len, list_all}
-use Rattle.std.proofs.lemmas.List.FromFn.{length-range_with_len, get_or-range_with_len}
+use Rattle.std.proofs.Common.{◌≡◌, ℕ, ◌<◌, Bool, List, length, get_or, eqb, zero-add, Decides, refl, arith}
+use Rattle.std.specs.List.{range_with_len, list_all, enumerate_from}
+use Rattle.std.proofs.lemmas.List.FromFn.{length-range_with_len, get_or-range_with_len, length-enumerate_from, get_or-enumerate_from}
+use Rattle.std.proofs.lemmas.List.{get_or_default}
 use Rattle.std.proofs.lemmas.Bool.Decides.{Decides-eqb, Decides-by_and}
 
 -- no number below n has a finding
@@ -12,4 +13,15 @@ no_finding f n =
     let len = length-range_with_len 0 n in (
       λ e i l. rw (get_or-range_with_len 0 n i 0 l, zero-add) at (all.0 e i 0 (omega arith)),
       λ h. all.1 (λ k d l. let m : k < n = omega arith in rw (get_or-range_with_len 0 n k d m, zero-add) (h k m)),
+    )
+
+-- no element, taken with its place, has a finding
+pub no_finding_each : {X : Type 0} (f : ℕ → X → ℕ) (xs : List X) (d : X) →
+    Decides (list_all (λ p. eqb (f p.0 p.1) 0) (enumerate_from 0 xs)) ((i : ℕ) → i < length xs → f i (get_or xs i d) ≡ 0)
+no_finding_each {X} f xs d =
+    let test : (ℕ × X) → Bool = λ p. eqb (f p.0 p.1) 0 in
+    let all = Decides-by_and test (λ p. f p.0 p.1 ≡ 0) (list_all test) (λ p. Decides-eqb (f p.0 p.1) 0) refl (λ _ _. refl) (enumerate_from 0 xs) in
+    let len = length-enumerate_from 0 xs in (
+      λ e i l. rw (get_or-enumerate_from 0 xs i (0, d) l, zero-add) at (all.0 e i (0, d) (omega arith)),
+      λ h. all.1 (λ k q l. let m : k < length xs = omega arith in rw (get_or-enumerate_from 0 xs k q m, zero-add, get_or_default xs k q.1 d m) (h k m)),
     )

@@ -93,37 +93,50 @@ fn leads_on(rows: &[Row], t: usize, touch: Touch) -> bool
     next == 0 || t < next && is_from_step(row_at(rows, next), t as u64)
 }
 
-// Whether line `j` keeps its rules.
-fn line_keeps(rows: &[Row], lines: &[Line], j: usize) -> bool
-    requires { j < length lines.now }
-    ensures { result ≡ (line_finding rows.now lines.now j == 0) }
-{
-    keeps_order(lines, j) && opens_row(rows, j, lines[j])
+// Rows and lines that are tried.
+#[derive(Clone, Copy)]
+struct Log<'a> {
+    rows: &'a [Row],
+    lines: &'a [Line],
 }
 
-// Whether row `t` keeps its link rules.
-fn row_keeps(rows: &[Row], lines: &[Line], t: usize) -> bool
-    ensures { result ≡ (link_finding zeroed rows.now lines.now t (row_at rows.now t) == 0) }
-{
-    match row_at(rows, t) {
-        Row::FromLine(touch) => comes_from_line(lines, t, touch) && leads_on(rows, t, touch),
-        Row::FromStep(touch) => comes_from_step(rows, t, touch) && leads_on(rows, t, touch),
-        _ => true,
+impl<'a> Log<'a> {
+    // Whether line `j` keeps its rules.
+    fn line_keeps(self, j: usize) -> bool
+        requires { j < length self.lines.now }
+        ensures { result ≡ (line_finding self.entry.rows.now self.entry.lines.now j == 0) }
+    {
+        keeps_order(self.lines, j) && opens_row(self.rows, j, self.lines[j])
     }
-}
 
-// Whether each line keeps its rules.
-fn lines_keep(rows: &[Row], lines: &[Line]) -> bool
-    ensures { Decides result (LinesPass rows.now lines.now) }
-{
-    (0..lines.len()).all(|j| line_keeps(rows, lines, j))
-}
+    // Whether this row, as row `t`, keeps its link rules.
+    fn row_keeps(self, t: usize, row: Row) -> bool
+        ensures { result ≡ (link_finding zeroed self.entry.rows.now self.entry.lines.now t row == 0) }
+    {
+        let Log { rows, lines } = self;
+        match row {
+            Row::FromLine(touch) => comes_from_line(lines, t, touch) && leads_on(rows, t, touch),
+            Row::FromStep(touch) => comes_from_step(rows, t, touch) && leads_on(rows, t, touch),
+            _ => true,
+        }
+    }
 
-// Whether each row keeps its link rules.
-fn rows_keep(rows: &[Row], lines: &[Line]) -> bool
-    ensures { Decides result (RowsPass zeroed rows.now lines.now) }
-{
-    (0..rows.len()).all(|i| row_keeps(rows, lines, i + 1))
+    // Whether each line keeps its rules. It goes over the numbers of the lines, since a line's rules name the line before it.
+    fn lines_keep(self) -> bool
+        ensures { Decides result (LinesPass self.entry.rows.now self.entry.lines.now) }
+    {
+        (0..self.lines.len()).all(|j| self.line_keeps(j))
+    }
+
+    // Whether each row keeps its link rules.
+    fn rows_keep(self) -> bool
+        ensures { Decides result (RowsPass zeroed self.entry.rows.now self.entry.lines.now) }
+    {
+        self.rows
+            .iter()
+            .enumerate()
+            .all(|(i, row)| self.row_keeps(i + 1, *row))
+    }
 }
 
 // Whether rows and lines keep the link rules: they do exactly when they are the log of what
@@ -131,5 +144,6 @@ fn rows_keep(rows: &[Row], lines: &[Line]) -> bool
 pub fn keeps_links(rows: &[Row], lines: &[Line]) -> bool
     ensures { Decides result (IsLog zeroed rows.now lines.now) }
 {
-    lines_keep(rows, lines) && rows_keep(rows, lines)
+    let log = Log { rows, lines };
+    log.lines_keep() && log.rows_keep()
 }

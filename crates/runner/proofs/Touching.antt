@@ -1,6 +1,6 @@
 -- A step that touches a cell, by whether it opens the cell's entry.
 -- Assumes nothing.
-use Rattle.std.proofs.Common.{◌≡◌, ℕ, suc, ◌+◌, ◌-◌, ◌<◌, List, [], ◌∷◌, ◌++◌, length, get_or, set, Some, None, sym, refl, ap, ◌∙◌, subst, inl, inr, add-one, arith}
+use Rattle.std.proofs.Common.{◌≡◌, ℕ, suc, ◌+◌, ◌-◌, ◌<◌, List, [], ◌∷◌, ◌++◌, length, get_or, set, Some, None, sym, refl, ap, ◌∙◌, subst, add-one, arith}
 use Rattle.std.proofs.lemmas.List.{length-set, length-append, get_or-set_same, get_or-set_other, get_or_append_left, get_or-append_right}
 use Rattle.encoding.specs.declared.operation.Operation.{Operation}
 use Rattle.machine.specs.declared.step.Demand.TheVariants.{Cell}
@@ -10,6 +10,7 @@ use Rattle.dossier.specs.declared.record.Row.TheVariants as row
 use Rattle.tinyram.specs.Program.{operation}
 use Rattle.index.specs.declared.entry.CellEntry.{CellEntry}
 use Rattle.index.specs.Cells.{Cells, none, Apart, renewed}
+use Rattle.index.specs.declared.map.Entered.TheVariants.{New, Known}
 use Rattle.index.specs.Map.{Opens}
 use Rattle.runner.specs.declared.log.Log.{Log}
 use Rattle.runner.specs.Sofar.{link_to, first_touch, later_touch, opened_entry}
@@ -58,41 +59,38 @@ module _ (s : Log) (h : Going s) (more : s.steps < s.job.bound) (by : Operation)
   abbrev e : CellEntry
   e = opened_entry c (T + 1) 0
 
-  abbrev Left : Cells → Type 0
-  Left y = value ≡ left by s.cpu (entry_at y.entries k).value
-
   abbrev Renews : Cells → Type 0
   Renews y = x'.entries ≡ set y.entries k (renewed y.entries k (T + 1) value)
 
   abbrev first_rows : List Row
   first_rows = set s.rows.now T (row.FromLine (first_touch c k value))
 
-  pub first_touched : (y : Cells) → Opens x e (Some k) y → k ≡ length x.entries → Left y → Renews y → x'.limit ≡ y.limit →
-      Onward s (log_with s (stepped by (Some (entry_at y.entries k).value) s.cpu) s.unread x' first_rows) None
-  first_touched y (inl o) k-is = let z = o.0.0 in absurd (omega arith)
-  first_touched y (inr o) k-is =
-      let y' : Cells = record { entries = x.entries ++ e ∷ []; limit = x.limit } in
-      let P : Cells → Type 0 = λ u. Left u → Renews u → x'.limit ≡ u.limit → Onward s (log_with s (stepped by (Some (entry_at u.entries k).value) s.cpu) s.unread x' first_rows) None in
-      subst P (sym o.2) (λ value-is is limit.
-      let zero : (entry_at y'.entries k).value ≡ 0 = ap (λ u. u.value) (here x.entries e k (T + 1) value k-is) in
+  pub first_touched : (y : Cells) → Opens x e (Some (New k)) y → value ≡ left by s.cpu 0 → Renews y → x'.limit ≡ y.limit →
+      Onward s (log_with s (stepped by (Some 0) s.cpu) s.unread x' first_rows) None
+  first_touched y o value-is =
+      let k-is = o.1 in
+      let P : Cells → Type 0 = λ u. Renews u → x'.limit ≡ u.limit → Onward s (log_with s (stepped by (Some 0) s.cpu) s.unread x' first_rows) None in
+      subst P (sym o.2) (λ is limit.
       let G : List CellEntry → Type 0 = λ u. length u ≡ suc (length x.entries) in
       let O : List CellEntry → Type 0 = λ u. (j : ℕ) → j < length x.entries → entry_at u j ≡ entry_at x.entries j in
       let N : List CellEntry → Type 0 = λ u. entry_at u (length x.entries) ≡ record { cell = c; first = T + 1; last = T + 1; value = value } in
       let n : entry_at x'.entries (length x.entries) ≡ record { cell = c; first = T + 1; last = T + 1; value = value } = subst N (sym is) (new x.entries e k (T + 1) value k-is) in
-      let t = onward_first h more by by-is c asks (entry_at y'.entries k).value value (h.filling.holds.clear c o.0 ∙ sym zero) value-is o.0 zero x'
+      let t = onward_first h more by by-is c asks 0 value (h.filling.holds.clear c o.0) value-is o.0 refl x'
       (subst G (sym is) (grown x.entries e k (T + 1) value k-is)) (subst O (sym is) (old x.entries e k (T + 1) value k-is))
       (n ∙ rw add-one refl) apart limit in
-      let R : ℕ → Type 0 = λ u. Onward s (log_with s (stepped by (Some (entry_at y'.entries k).value) s.cpu) s.unread x' (set s.rows.now T (row.FromLine (first_touch c u value)))) None in
+      let R : ℕ → Type 0 = λ u. Onward s (log_with s (stepped by (Some 0) s.cpu) s.unread x' (set s.rows.now T (row.FromLine (first_touch c u value)))) None in
       subst R (sym k-is) (onward {s = s} s.unread t))
 
   abbrev later_rows : CellEntry → Row → List Row
   later_rows u q = set (set s.rows.now T (row.FromStep (later_touch u value))) (u.last - 1) q
 
-  pub later_touched : (y : Cells) → Opens x e (Some k) y → (k ≡ length x.entries → ⊥) → Left y → Renews y → x'.limit ≡ y.limit →
+  abbrev Left : Cells → Type 0
+  Left y = value ≡ left by s.cpu (entry_at y.entries k).value
+
+  pub later_touched : (y : Cells) → Opens x e (Some (Known k)) y → Left y → Renews y → x'.limit ≡ y.limit →
       (q d : Row) → q ≡ link_to (T + 1) (get_or (set s.rows.now T (row.FromStep (later_touch (entry_at y.entries k) value))) ((entry_at y.entries k).last - 1) d) →
       Onward s (log_with s (stepped by (Some (entry_at y.entries k).value) s.cpu) s.unread x' (later_rows (entry_at y.entries k) q)) None
-  later_touched y (inr o) ne = absurd (ne o.1)
-  later_touched y (inl o) ne =
+  later_touched y o =
       let P : Cells → Type 0 = λ u. Left u → Renews u → x'.limit ≡ u.limit →
       (q d : Row) → q ≡ link_to (T + 1) (get_or (set s.rows.now T (row.FromStep (later_touch (entry_at u.entries k) value))) ((entry_at u.entries k).last - 1) d) →
       Onward s (log_with s (stepped by (Some (entry_at u.entries k).value) s.cpu) s.unread x' (later_rows (entry_at u.entries k) q)) None in

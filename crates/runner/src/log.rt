@@ -12,7 +12,7 @@ use crate::job::Job;
 use crate::touch::{first_record, later_record, linked, opened};
 use dossier::record::Row;
 use encoding::operation::Operation;
-use index::map::CellMap;
+use index::map::{CellMap, Entered};
 use machine::cpu::Cpu;
 use machine::step::{Demand, after, asks, execute, fetch};
 
@@ -79,21 +79,23 @@ impl<'a, 'r, 'c> Log<'a, 'r, 'c> {
         ensures { Onward self.old self.new None }
     {
         let step = self.steps as u32 + 1;
-        let known = self.cells.entries().len();
-        let Some(number) = self.cells.open(opened(cell, step)) else {
-            unreachable!()
-        };
-        let entry = self.cells.entries()[number];
-        let value = after(by, &self.cpu, entry.value);
-        self.cells.renew(number, step, value);
-        if number == known {
-            let record = first_record(cell, number as u32, value);
-            self.make(by, Some(entry.value), Row::FromLine(record));
-        } else {
-            let record = later_record(entry, value);
-            self.make(by, Some(entry.value), Row::FromStep(record));
-            let former = entry.last as usize - 1;
-            self.rows[former] = linked(self.rows[former], step);
+        match self.cells.open(opened(cell, step)) {
+            Some(Entered::New(number)) => {
+                let value = after(by, &self.cpu, 0);
+                self.cells.renew(number, step, value);
+                let record = first_record(cell, number as u32, value);
+                self.make(by, Some(0), Row::FromLine(record));
+            }
+            Some(Entered::Known(number)) => {
+                let entry = self.cells.entries()[number];
+                let value = after(by, &self.cpu, entry.value);
+                self.cells.renew(number, step, value);
+                let record = later_record(entry, value);
+                self.make(by, Some(entry.value), Row::FromStep(record));
+                let former = entry.last as usize - 1;
+                self.rows[former] = linked(self.rows[former], step);
+            }
+            None => unreachable!(),
         }
     }
 

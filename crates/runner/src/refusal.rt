@@ -6,7 +6,7 @@ ghost use Rattle.runner.specs.Refused.{refusal_number, refusal_values};
 use std::alloc::AllocError;
 
 // What has to be within its limits: the length of the program, the count of primary words, the bound.
-#[derive(Clone, Copy, PartialEq, Debug)]
+#[derive(Clone, Copy, PartialEq, Eq, Debug)]
 pub enum Limit {
     Program = 1,
     Primary = 2,
@@ -15,7 +15,7 @@ pub enum Limit {
 
 // Refusal 7: a number is outside its limits. Refusal 6: the place of the first ill-formed instruction.
 // Refusal 8: the entries that a table needs. Want of memory has no number.
-#[derive(Clone, Copy, PartialEq, Debug)]
+#[derive(Clone, Copy, PartialEq, Eq, Debug)]
 pub enum RunRefusal {
     Outside(Limit),
     IllFormed { place: u32 },
@@ -50,11 +50,11 @@ impl RunRefusal {
     pub fn value(&self, place: usize) -> Option<u32>
         ensures { result ≡ slice_get (refusal_values self.now) place }
     {
-        match (*self, place) {
-            (RunRefusal::Outside(limit), 0) => Some(limit as u32),
-            (RunRefusal::IllFormed { place }, 0) => Some(place),
-            (RunRefusal::Room { needed }, 0) => Some(needed),
-            _ => None,
+        match self {
+            RunRefusal::Outside(limit) => [*limit as u32].get(place).copied(),
+            RunRefusal::IllFormed { place: at } => [*at].get(place).copied(),
+            RunRefusal::Room { needed } => [*needed].get(place).copied(),
+            RunRefusal::OutOfMemory => None,
         }
     }
 }

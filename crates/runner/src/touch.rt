@@ -22,10 +22,9 @@ pub fn first_record(cell: u32, number: u32, after: u32) -> Touch
 {
     Touch {
         cell,
-        before: 0,
         after,
         origin: number,
-        next: 0,
+        ..Touch::default()
     }
 }
 
@@ -38,7 +37,7 @@ pub fn later_record(entry: CellEntry, after: u32) -> Touch
         before: entry.value,
         after,
         origin: entry.last,
-        next: 0,
+        ..Touch::default()
     }
 }
 
@@ -50,6 +49,6 @@ pub fn opened(cell: u32, step: u32) -> CellEntry
         cell,
         first: step,
         last: step,
-        value: 0,
+        ..CellEntry::default()
     }
 }
