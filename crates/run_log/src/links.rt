@@ -52,12 +52,13 @@ fn row_at(rows: &[Row], t: usize) -> Row
         .unwrap_or(Row::Plain)
 }
 
-// Rule 24: the line's cell is a multiple of 4 and above the former line's.
-fn keeps_order(lines: &[Line], j: usize) -> bool
-    requires { j < length lines.now }
+// Rule 24: the cell of this line, which is line `j`, is a multiple of 4 and above the former line's.
+fn keeps_order(lines: &[Line], j: usize, line: Line) -> bool
+    requires at { line ≡ line_at lines.now j }
+    requires inside { j < length lines.now }
     ensures { result ≡ test_line_order lines.now j }
 {
-    lines[j].cell % 4 == 0 && (j == 0 || lines[j - 1].cell < lines[j].cell)
+    line.cell % 4 == 0 && (j == 0 || lines[j - 1].cell < line.cell)
 }
 
 // Rule 25: the line's step is in the log, and its row is a touch from this line.
@@ -107,7 +108,7 @@ impl<'a> Log<'a> {
         requires inside { j < length self.lines.now }
         ensures { result ≡ (line_finding self.entry.rows.now self.entry.lines.now j == 0) }
     {
-        keeps_order(self.lines, j) && opens_row(self.rows, j, line)
+        keeps_order(self.lines, j, line) && opens_row(self.rows, j, line)
     }
 
     // Whether this row, as row `t`, keeps its link rules.
