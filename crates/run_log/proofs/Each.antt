@@ -1,6 +1,6 @@
 -- A test that holds of each number below n, or of each element of a list, one after the other.
 -- Assumes nothing.
-use Rattle.std.proofs.Common.{◌≡◌, ℕ, ◌<◌, Bool, List, length, get_or, eqb, zero-add, Decides, refl, arith}
+use Rattle.std.proofs.Common.{◌≡◌, ℕ, ◌<◌, Bool, List, length, get_or, eqb, zero-add, Decides, refl, ap, ◌∙◌, arith}
 use Rattle.std.specs.List.{range_with_len, list_all, enumerate_from}
 use Rattle.std.proofs.lemmas.List.FromFn.{length-range_with_len, get_or-range_with_len, length-enumerate_from, get_or-enumerate_from}
 use Rattle.std.proofs.lemmas.List.{get_or_default}
@@ -25,3 +25,12 @@ no_finding_each {X} f xs d =
       λ e i l. rw (get_or-enumerate_from 0 xs i (0, d) l, zero-add) at (all.0 e i (0, d) (omega arith)),
       λ h. all.1 (λ k q l. let m : k < length xs = omega arith in rw (get_or-enumerate_from 0 xs k q m, zero-add, get_or_default xs k q.1 d m) (h k m)),
     )
+
+-- what stands in the list of the elements with their places
+pub placed : {X : Type 0} (xs : List X) (d : X) (k : ℕ) (p : ℕ × X) → k < length (enumerate_from 0 xs) → p ≡ get_or (enumerate_from 0 xs) k p →
+    (p.1 ≡ get_or xs p.0 d) × (p.0 < length xs)
+placed xs d k p l e =
+    let m : k < length xs = rw (length-enumerate_from 0 xs) at l in
+    let z = e ∙ get_or-enumerate_from 0 xs k p m in
+    let at : p.0 ≡ k = ap (λ u. u.0) z ∙ zero-add k in
+    rw at (ap (λ u. u.1) z ∙ get_or_default xs k p.1 d m, m)

@@ -1,7 +1,7 @@
 // The link rules, tried on rows and lines that are at hand.
 ghost use Rattle.std.specs.Prelude.{◌≡◌, ◌<◌, ◌==◌, length, Decides};
 ghost use Rattle.run_log.specs.Log.{zeroed, IsLog};
-ghost use Rattle.run_log.specs.Rules.{row_at, from_line, opens_touch, from_step, leads_to};
+ghost use Rattle.run_log.specs.Rules.{row_at, line_at, from_line, opens_touch, from_step, leads_to};
 ghost use Rattle.run_log.specs.Rules.{test_line_order, test_line_step, test_line_origin, test_step_origin, test_next_link};
 ghost use Rattle.run_log.specs.Rules.{line_finding, link_finding, LinesPass, RowsPass};
 
@@ -52,12 +52,13 @@ fn row_at(rows: &[Row], t: usize) -> Row
         .unwrap_or(Row::Plain)
 }
 
-// Rule 24: the line's cell is a multiple of 4 and above the former line's.
-fn keeps_order(lines: &[Line], j: usize) -> bool
-    requires { j < length lines.now }
+// Rule 24: the cell of this line, which is line `j`, is a multiple of 4 and above the former line's.
+fn keeps_order(lines: &[Line], j: usize, line: Line) -> bool
+    requires at { line ≡ line_at lines.now j }
+    requires inside { j < length lines.now }
     ensures { result ≡ test_line_order lines.now j }
 {
-    lines[j].cell % 4 == 0 && (j == 0 || lines[j - 1].cell < lines[j].cell)
+    line.cell % 4 == 0 && (j == 0 || lines[j - 1].cell < line.cell)
 }
 
 // Rule 25: the line's step is in the log, and its row is a touch from this line.
@@ -101,12 +102,13 @@ struct Log<'a> {
 }
 
 impl<'a> Log<'a> {
-    // Whether line `j` keeps its rules.
-    fn line_keeps(self, j: usize) -> bool
-        requires { j < length self.lines.now }
+    // Whether this line, which is line `j`, keeps its rules.
+    fn line_keeps(self, j: usize, line: Line) -> bool
+        requires at { line ≡ line_at self.lines.now j }
+        requires inside { j < length self.lines.now }
         ensures { result ≡ (line_finding self.entry.rows.now self.entry.lines.now j == 0) }
     {
-        keeps_order(self.lines, j) && opens_row(self.rows, j, self.lines[j])
+        keeps_order(self.lines, j, line) && opens_row(self.rows, j, line)
     }
 
     // Whether this row, as row `t`, keeps its link rules.
@@ -121,11 +123,14 @@ impl<'a> Log<'a> {
         }
     }
 
-    // Whether each line keeps its rules. It goes over the numbers of the lines, since a line's rules name the line before it.
+    // Whether each line keeps its rules.
     fn lines_keep(self) -> bool
         ensures { Decides result (LinesPass self.entry.rows.now self.entry.lines.now) }
     {
-        (0..self.lines.len()).all(|j| self.line_keeps(j))
+        self.lines
+            .iter()
+            .enumerate()
+            .all(|(j, line)| self.line_keeps(j, *line))
     }
 
     // Whether each row keeps its link rules.

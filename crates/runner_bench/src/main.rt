@@ -49,7 +49,7 @@ fn measure(rt: &HostRuntime, stride: u32) -> io::Result<u64> {
     let ended = run(heap, job, &mut rows, &mut cells);
     let took = u64::try_from(start.elapsed(rt)?.as_micros()).unwrap_or(u64::MAX);
     let Ok(run) = ended else {
-        return Ok(0);
+        return Err(io::Error::other("the run was refused"));
     };
     let touched = run.cells;
     let rate = 1_000_000_000_000u64.checked_div(took).unwrap_or(0);
