@@ -58,7 +58,7 @@ const MNEMONICS: [Option<Mnemonic>; 32] = [
 ];
 
 impl Mnemonic {
-    // The mnemonic of an opcode, which has 5 bits.
+    // The mnemonic of an opcode, which has 5 bits; no `TryFrom`, since nothing asks with another number.
     pub(crate) fn of(opcode: usize) -> Option<Mnemonic>
         requires { opcode < 32 }
         ensures { result ≡ mnemonic_of opcode }

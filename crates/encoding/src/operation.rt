@@ -106,7 +106,8 @@ fn pack(mnemonic: Mnemonic, i: u8, j: u8, a: Operand) -> Instruction
     Instruction { first, second }
 }
 
-// The instruction with the registers `i` and `j` and the operand `a`, if these are registers.
+// The instruction with the registers `i` and `j` and the operand `a`, if these are registers. TinyRAM's own letters; the
+// four are an instruction's fields, and a struct of them would be one more between `Operation` and `Instruction`.
 pub fn place(mnemonic: Mnemonic, i: u8, j: u8, a: Operand) -> Option<Instruction>
     ensures { result ≡ placed mnemonic i j a }
 {

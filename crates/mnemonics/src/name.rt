@@ -7,6 +7,7 @@ use encoding::operation::Condition;
 use word::cell::Size;
 use word::operator::{Arithmetic, Comparison};
 
+// The table of crate `encoding` is by opcode, with gaps, and its own; names are found in any order.
 const MNEMONICS: [Mnemonic; 29] = [
     Mnemonic::Compute(Arithmetic::And),
     Mnemonic::Compute(Arithmetic::Or),

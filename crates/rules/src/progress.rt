@@ -4,7 +4,8 @@ use dossier::record::{Head, Line, Row};
 use encoding::instruction::Instruction;
 use machine::cpu::Cpu;
 
-// What is taken and checked at once: an item, by its part and its place there.
+// What is taken and checked at once: an item, by its part and its place there. The head is a part too and no unit, which
+// is why this is no pair of the two.
 #[derive(Clone, Copy, PartialEq, Eq, Debug)]
 pub enum Unit {
     Instruction(u32),

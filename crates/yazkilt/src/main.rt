@@ -68,7 +68,7 @@ fn trace(rt: &HostRuntime, job: Job) -> anyhow::Result<()> {
     Ok(())
 }
 
-// The program that a text assembles to in the table; a refusal is told, and leaves no program.
+// The program that a text assembles to in the table; a refusal is told in this program's own words, and leaves no program.
 fn assembled<'a>(
     rt: &HostRuntime,
     text: &str,
