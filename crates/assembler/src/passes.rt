@@ -34,7 +34,9 @@ impl Labels<'_> {
         ensures count { result ≡ length (program (known self.now) (lines text.now)) }
         ensures table { table.new ≡ program (known self.now) (lines text.now) ++ drop (length (program (known self.now) (lines text.now))) table.old }
     {
-        // an index, since a `for` over `table.iter_mut()` tells a proof nothing of what it wrote
+        // counted by hand, since only a line that has an instruction takes an entry: under `filter_map` and `enumerate` each
+        // step passes over a run of lines, of which the proof would need an induction, and of what is written through a
+        // `zip` with `table.iter_mut()` a proof knows nothing
         let mut at = 0;
         for line in Lines(text) {
             if let Ok(Some(instruction)) = self.instruction_in(line) {
