@@ -37,18 +37,20 @@ module _ {R : Type 0} (t s : ℕ) (parsed : List ℕ → Option R) (list : Meani
     pub past_end : count h ≤ k → Err (Past p k) ≡ item_answer p k (slice_get (list (meaning_of bs)) k)
     past_end past = ap (item_answer p k) (sym (nth_none (field_read t s parsed) (3 + s) (count h) k (drop (start h) bs) past)) ∙ under
 
-    -- w is the field's size, and b the part's start
-    module _ (w b : ℕ) (size : w ≡ 3 + s) (begins : b ≡ start h) (inside : k < count h) where
-      pub in_file : b + w * k + w ≤ length bs
+    -- the field stands between these two places
+    module _ (from to : ℕ) (begins : from ≡ start h + (3 + s) * k) (ends : to ≡ start h + (3 + s) * (k + 1)) (inside : k < count h) where
+      pub in_file : to ≤ length bs
       in_file =
           let long = long_enough bs (Some h) h is refl in
-          let last = room w k (count h) inside in
-          let end : start h + w * count h ≤ length bs = let within = placed.within h in let same = ap (λ x. x * count h) size in omega arith in
+          let last = room (3 + s) k (count h) inside in
+          let within = placed.within h in
           omega arith
 
-      pub found : (x : Option R) → x ≡ field_read t s parsed (take (b + w * k + w - (b + w * k)) (drop (b + w * k) bs)) → ok_or x (Unreadable (record { part = p; place = k; layer = 1 })) ≡ item_answer p k (slice_get (list (meaning_of bs)) k)
+      pub found : (x : Option R) → x ≡ field_read t s parsed (take (to - from) (drop from bs)) → ok_or x (Unreadable (record { part = p; place = k; layer = 1 })) ≡ item_answer p k (slice_get (list (meaning_of bs)) k)
       found x read =
+          let b = start h + (3 + s) * k in
+          let after : to ≡ b + (3 + s) = omega arith in
+          let here = read ∙ ap (λ n. field_read t s parsed (take (to - n) (drop n bs))) begins ∙ ap (λ n. field_read t s parsed (take (n - b) (drop b bs))) after in
           told p k x
-          ∙ item_found (field_read t s parsed) (3 + s) p w (count h) k b bs x size inside read
-          ∙ ap (λ n. item_answer p k (slice_get (items (field_read t s parsed) (3 + s) (count h) (drop n bs)) k)) begins
+          ∙ item_found (field_read t s parsed) (3 + s) p (3 + s) (count h) k (start h) bs x refl inside here
           ∙ under

@@ -1,16 +1,15 @@
 // Layer 1: a dossier in the bytes of a file.
 ghost use Rattle.std.specs.Prelude.{◌≡◌};
 ghost use Rattle.std.specs.List.{slice_get};
-ghost use Rattle.dossier.specs.declared.refusal.Refusal.TheVariants.{Unreadable};
 ghost use Rattle.dossier.specs.Meaning.{Readable, item_answer};
 ghost use Rattle.field.specs.Bytes.{Bytes};
 ghost use Rattle.codec.specs.Held.{head_of, meaning_of};
 ghost use Rattle.codec.specs.Written.{written};
 
-use crate::layout::{FilePart, HEAD_SIZE, file_size};
+use crate::layout::{FilePart, HEAD_SIZE, field_range, file_size};
 use dossier::questions::Dossier;
 use dossier::record::{Head, Line, Row};
-use dossier::refusal::{Fault, Part, Refusal};
+use dossier::refusal::{Part, Refusal};
 use encoding::instruction::Instruction;
 use field::kind::read_field;
 
@@ -47,10 +46,9 @@ impl<'a> ByteDossier<'a> {
         if place >= R::count(head) {
             return Err(past);
         }
-        let size = 3 + R::SIZE as usize;
-        let start = R::start(head) + size * place as usize;
-        let end = start + size;
-        read_field(&self.bytes[start..end]).ok_or(unreadable(part, place))
+        read_field(&self.bytes[field_range::<R>(head, place)]).ok_or(Refusal::unreadable(
+            part, place, LAYER,
+        ))
     }
 }
 
@@ -60,7 +58,7 @@ impl<'a> Dossier for ByteDossier<'a> {
     ghost rule = { λ d. Bytes d.bytes.now × (d.head ≡ head_of d.bytes.now) };
 
     fn head(&mut self) -> Result<Head, Refusal> {
-        self.head.ok_or(unreadable(Part::Head, 0))
+        self.head.ok_or(Refusal::unreadable(Part::Head, 0, LAYER))
     }
 
     fn instruction(&mut self, place: u32) -> Result<Instruction, Refusal> {
@@ -78,16 +76,6 @@ impl<'a> Dossier for ByteDossier<'a> {
     fn row(&mut self, place: u32) -> Result<Row, Refusal> {
         self.item(place)
     }
-}
-
-fn unreadable(part: Part, place: u32) -> Refusal
-    ensures { result ≡ Unreadable (record { part = part; place = place; layer = 1 }) }
-{
-    Refusal::Unreadable(Fault {
-        part,
-        place,
-        layer: LAYER,
-    })
 }
 
 // The head, if its field stands first and the file has the length that it says.

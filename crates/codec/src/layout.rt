@@ -1,6 +1,6 @@
 // Where the parts of a file begin. The sums are below 2^38, so that they fit.
 // The fields of 23, 11, 7, 11 and 24 bytes are the format's; a sum for each part is plainer than one over the kinds.
-ghost use Rattle.std.specs.Prelude.{◌≡◌, ℕ};
+ghost use Rattle.std.specs.Prelude.{◌≡◌, ℕ, ◌+◌, ◌*◌};
 ghost use Rattle.dossier.specs.declared.record.Head.{Head};
 ghost use Rattle.codec.specs.Layout.{instructions_start, words_start, lines_start, rows_start, file_size};
 ghost use Rattle.codec.specs.Held.{PartOfFile, instructions_placed, words_placed, lines_placed, rows_placed};
@@ -9,6 +9,7 @@ use dossier::listed::ListedRecord;
 use dossier::record::{Head, Line, Row};
 use encoding::instruction::Instruction;
 use field::kind::Kind;
+use std::ops::Range;
 
 pub const HEAD_SIZE: usize = 23;
 
@@ -45,6 +46,16 @@ pub trait FilePart: ListedRecord + Kind {
 
     // The part's list is what stands there, and the part ends within the file.
     ghost placed: { PartOfFile Self.TAG Self.SIZE Self.parsed Self.list Self.count start };
+}
+
+// Where the field of an item stands in a file.
+pub fn field_range<R: FilePart>(head: Head, place: u32) -> Range<usize>
+    ensures start { result.start ≡ R.FilePart.start head + (3 + R.Kind.SIZE) * place }
+    ensures end { result.end ≡ R.FilePart.start head + (3 + R.Kind.SIZE) * (place + 1) }
+{
+    let size = 3 + R::SIZE as usize;
+    let start = R::start(head) + size * place as usize;
+    start..start + size
 }
 
 impl FilePart for Instruction {

@@ -7,6 +7,8 @@ use dossier::record::{Head, Line, Row};
 use dossier::refusal::Refusal;
 use encoding::instruction::Instruction;
 
+const SLOTS: u32 = 32;
+
 // A row and the place that it was read at.
 #[derive(Clone, Copy)]
 pub struct Stored {
@@ -14,11 +16,11 @@ pub struct Stored {
     pub row: Row,
 }
 
-// The slot of a row is its place modulo 32.
+// The slot of a row is its place modulo their number.
 #[derive(Drop)]
 pub struct RowCache<D> {
     below: D,
-    slots: [Option<Stored>; 32],
+    slots: [Option<Stored>; SLOTS as usize],
 }
 
 impl<D: Dossier> RowCache<D> {
@@ -31,7 +33,7 @@ impl<D: Dossier> RowCache<D> {
     {
         RowCache {
             below,
-            slots: [None; 32],
+            slots: [None; SLOTS as usize],
         }
     }
 }
@@ -58,7 +60,7 @@ impl<D: Dossier> Dossier for RowCache<D> {
     }
 
     fn row(&mut self, place: u32) -> Result<Row, Refusal> {
-        let slot = (place % 32) as usize;
+        let slot = (place % SLOTS) as usize;
         if let Some(stored) = self.slots[slot]
             && stored.place == place
         {

@@ -7,7 +7,7 @@ ghost use Rattle.layers.specs.Pair.{Pairs, paired, common_list, common_answer};
 use dossier::listed::ListedRecord;
 use dossier::questions::Dossier;
 use dossier::record::{Head, Line, Record, Row};
-use dossier::refusal::{Fault, Part, Refusal};
+use dossier::refusal::{Part, Refusal};
 use encoding::instruction::Instruction;
 
 const LAYER: u32 = 4;
@@ -49,11 +49,7 @@ fn common<R: Record>(
     if first == second {
         Ok(first)
     } else {
-        Err(Refusal::Unreadable(Fault {
-            part,
-            place,
-            layer: LAYER,
-        }))
+        Err(Refusal::unreadable(part, place, LAYER))
     }
 }
 

@@ -1,4 +1,4 @@
-use Rattle.std.proofs.Common.{◌≡◌, ◌+◌, ◌*◌, ◌≤◌, length, Some, None, Option, Err, ap, ◌∙◌, arith, rules}
+use Rattle.std.proofs.Common.{◌≡◌, ◌≤◌, length, Some, None, Option, Err, ap, ◌∙◌, arith, rules}
 use Rattle.std.specs.Option.{ok_or}
 use Rattle.std.proofs.lemmas.Result.{err_from_is_err_and}
 use Rattle.dossier.specs.declared.record.Head.{Head}
@@ -26,31 +26,20 @@ returns-then-place-count g c =
     ap (λ p. Err (Past p c.args.place)) c.PART-part.ensures ∙ told
 
 -- the field ends within the bytes
-within : (g : given.Over) (c : goal.After-start g) → c.start.result + (3 + c.SIZE.result) * c.args.place + (3 + c.SIZE.result) ≤ length c.args.self.now.bytes.now
+within : (g : given.Over) (c : goal.After-field_range g) → c.field_range.result.end ≤ length c.args.self.now.bytes.now
 within g c =
     let kind = g.R.Kind in
     let list = g.R.ListedRecord in
     let is : ◌≡◌ {A = Option Head} (Some c.in_ok-head.head) c.args.self.now.head = search rules in
-    in_file kind.TAG kind.SIZE kind.parsed list.list list.count g.R.FilePart.start g.met.R.FilePart.placed list.PART c.args.place c.args.self.now.bytes.now c.in_ok-head.head (is ∙ c.requires.1) (3 + c.SIZE.result) c.start.result (ap (λ x. 3 + x) c.SIZE.ensures) c.start.ensures (omega (arith, c.count.ensures))
-
-pub overflow_add-start : goal.overflow_add-start
-overflow_add-start g c = let w = within g c in omega arith
-
-pub overflow_add-end : goal.overflow_add-end
-overflow_add-end g c = let w = within g c in omega arith
+    in_file kind.TAG kind.SIZE kind.parsed list.list list.count g.R.FilePart.start g.met.R.FilePart.placed list.PART c.args.place c.args.self.now.bytes.now c.in_ok-head.head (is ∙ c.requires.1) c.field_range.result.start c.field_range.result.end c.field_range.ensures.start c.field_range.ensures.end (omega (arith, c.count.ensures))
 
 pub slice_bounds-read_field-end : goal.slice_bounds-read_field-end
-slice_bounds-read_field-end g c =
-    let kind = g.R.Kind in
-    let list = g.R.ListedRecord in
-    let is : ◌≡◌ {A = Option Head} (Some c.in_ok-head.head) c.args.self.now.head = search rules in
-    let w = in_file kind.TAG kind.SIZE kind.parsed list.list list.count g.R.FilePart.start g.met.R.FilePart.placed list.PART c.args.place c.args.self.now.bytes.now c.in_ok-head.head (is ∙ c.requires.1) (3 + c.SIZE.result) c.start.result (ap (λ x. 3 + x) c.SIZE.ensures) c.start.ensures (omega (arith, c.count.ensures)) in
-    omega arith
+slice_bounds-read_field-end g c = let w = within g c in omega arith
 
 pub returns : goal.returns
 returns g c =
     let kind = g.R.Kind in
     let list = g.R.ListedRecord in
     let is : ◌≡◌ {A = Option Head} (Some c.in_ok-head.head) c.args.self.now.head = search rules in
-    let told = found kind.TAG kind.SIZE kind.parsed list.list list.count g.R.FilePart.start g.met.R.FilePart.placed list.PART c.args.place c.args.self.now.bytes.now c.in_ok-head.head (is ∙ c.requires.1) (3 + c.SIZE.result) c.start.result (ap (λ x. 3 + x) c.SIZE.ensures) c.start.ensures (omega (arith, c.count.ensures)) c.read_field.result c.read_field.ensures in
+    let told = found kind.TAG kind.SIZE kind.parsed list.list list.count g.R.FilePart.start g.met.R.FilePart.placed list.PART c.args.place c.args.self.now.bytes.now c.in_ok-head.head (is ∙ c.requires.1) c.field_range.result.start c.field_range.result.end c.field_range.ensures.start c.field_range.ensures.end (omega (arith, c.count.ensures)) c.read_field.result c.read_field.ensures in
     c.ok_or-2.ensures.value ∙ ap (ok_or c.read_field.result) c.unreadable.ensures ∙ ap (λ p. ok_or c.read_field.result (Unreadable (record { part = p; place = c.args.place; layer = 1 }))) c.PART-part.ensures ∙ told
