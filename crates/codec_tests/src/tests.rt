@@ -2,7 +2,7 @@
 use codec::holder::ByteDossier;
 use dossier::questions::Dossier;
 use dossier::record::{Head, Row};
-use dossier::refusal::{Fault, Part, Refusal};
+use dossier::refusal::{Part, Refusal};
 use field::kind::write_field;
 use layers::cache::RowCache;
 use layers::pair::Pair;
@@ -46,10 +46,6 @@ fn written(bytes: &[u8], out: &mut [u8]) -> Result<usize, WriteRefusal> {
     write(&mut dossier, out)
 }
 
-fn unreadable(part: Part, place: u32, layer: u32) -> Refusal {
-    Refusal::Unreadable(Fault { part, place, layer })
-}
-
 #[test]
 fn cache_answers_twice_the_same(rt: HostRuntime) {
     let bytes = two_rows(9, Row::Advice(7), Row::Plain);
@@ -74,16 +70,16 @@ fn pair_agrees_or_names_the_layer(rt: HostRuntime) {
     assert_eq!(rt; paired_row(&whole, &whole, 0), Ok(Row::Advice(7)));
     assert_eq!(rt;
         paired_row(&whole, &other, 0),
-        Err(unreadable(Part::Row, 0, 4))
+        Err(Refusal::unreadable(Part::Row, 0, 4))
     );
     assert_eq!(rt; paired_row(&whole, &other, 1), Ok(Row::Plain));
     assert_eq!(rt;
         paired_row(&whole, &torn, 0),
-        Err(unreadable(Part::Row, 0, 1))
+        Err(Refusal::unreadable(Part::Row, 0, 1))
     );
     assert_eq!(rt;
         paired_row(&torn, &other, 0),
-        Err(unreadable(Part::Row, 0, 1))
+        Err(Refusal::unreadable(Part::Row, 0, 1))
     );
 }
 
@@ -97,10 +93,10 @@ fn pair_without_a_common_head_has_no_items(rt: HostRuntime) {
     });
     assert_eq!(rt;
         paired_head(&whole, &other),
-        Err(unreadable(Part::Head, 0, 4))
+        Err(Refusal::unreadable(Part::Head, 0, 4))
     );
     assert_eq!(rt; paired_row(&whole, &other, 0), past);
-    assert_eq!(rt; paired_head(&whole, &[]), Err(unreadable(Part::Head, 0, 1)));
+    assert_eq!(rt; paired_head(&whole, &[]), Err(Refusal::unreadable(Part::Head, 0, 1)));
     assert_eq!(rt; paired_row(&[], &whole, 0), past);
 }
 
@@ -124,12 +120,12 @@ fn writer_refuses_in_order(rt: HostRuntime) {
     assert_eq!(rt; written(&torn, &mut out), short);
     assert_eq!(rt;
         written(&[], &mut out),
-        Err(WriteRefusal::Asked(unreadable(Part::Head, 0, 1)))
+        Err(WriteRefusal::Asked(Refusal::unreadable(Part::Head, 0, 1)))
     );
     let mut room = [170u8; 71];
     assert_eq!(rt;
         written(&torn, &mut room),
-        Err(WriteRefusal::Asked(unreadable(Part::Row, 1, 1)))
+        Err(WriteRefusal::Asked(Refusal::unreadable(Part::Row, 1, 1)))
     );
     assert!(rt; out == [170u8; 70] && room == [170u8; 71]);
 }

@@ -33,7 +33,7 @@ fn past_in(bytes: &[u8], part: Part) -> usize {
         .count()
 }
 
-// The total saturates: that a plain sum of the four counts fits was tried, and not found.
+// The total saturates: a plain sum of the four counts was tried, and the proof that it fits did not close.
 fn past(bytes: &[u8]) -> usize {
     PARTS.iter().fold(
         0usize,

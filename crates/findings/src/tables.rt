@@ -71,8 +71,7 @@ pub(crate) fn read<D: Dossier>(heap: Global, dossier: &mut D) -> Result<Tables, 
         .map(|line| CellEntry {
             cell: line.cell,
             first: line.step,
-            last: 0,
-            value: 0,
+            ..CellEntry::default()
         })
         .collect(heap)?;
     Ok(Tables {

@@ -4,7 +4,7 @@ use dossier::refusal::Refusal;
 use encoding::instruction::Instruction;
 use std::fmt;
 
-#[derive(Clone, Copy, PartialEq, Debug)]
+#[derive(Clone, Copy, PartialEq, Eq, Debug)]
 pub enum Found {
     Head(Head),
     Instruction(Instruction),

@@ -7,13 +7,14 @@ ghost use Rattle.table.specs.Held.{head_of, listed, table_meaning};
 use crate::entry::Entry;
 use dossier::questions::Dossier;
 use dossier::record::{Head, Line, Row};
-use dossier::refusal::{Fault, Part, Refusal};
+use dossier::refusal::{Part, Refusal};
 use encoding::instruction::Instruction;
 use index::entry::CellEntry;
 
 const LAYER: u32 = 2;
 
-// What is lent, and the head that counts it.
+// What is lent, and the head that counts it. The bound and the lists are named one by one, as the promise of `new`
+// and the meaning name them.
 #[derive(Drop)]
 pub struct TableDossier<'a> {
     bound: u32,
@@ -53,11 +54,7 @@ impl<'a> Dossier for TableDossier<'a> {
     ghost rule = { λ d. (d.bound < 2 ^ 32) × (d.head ≡ head_of d.bound d.program.now d.primary.now d.cells.now d.rows.now) };
 
     fn head(&mut self) -> Result<Head, Refusal> {
-        self.head.ok_or(Refusal::Unreadable(Fault {
-            part: Part::Head,
-            place: 0,
-            layer: LAYER,
-        }))
+        self.head.ok_or(Refusal::unreadable(Part::Head, 0, LAYER))
     }
 
     fn instruction(&mut self, place: u32) -> Result<Instruction, Refusal> {
@@ -95,6 +92,8 @@ fn head_of(
     })
 }
 
+// The place is compared with the length, as in the other holders; a table of entries by kind would need a law that
+// ties each to its list. So the part is given.
 // The item that the entry at a place of a table gives; without a head there is none.
 fn item<E: Entry>(
     head: Option<Head>,

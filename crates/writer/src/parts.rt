@@ -1,4 +1,5 @@
 // One part of a dossier: its items are tried, and then written.
+// The rule is asked of each function here: the writer borrows its dossier, and an opened one owns it.
 ghost use Rattle.std.specs.Prelude.{◌≡◌, ◌+◌, ◌*◌, ◌++◌, length, take};
 ghost use Rattle.std.specs.List.{slice_get, flat_map};
 ghost use Rattle.dossier.specs.Meaning.{Each, IsRecord, item_answer};
@@ -6,7 +7,7 @@ ghost use Rattle.codec.specs.Layout.{file_size};
 ghost use Rattle.codec.specs.Written.{item_bytes};
 ghost use Rattle.writer.specs.Write.{Headed, first_fault, put};
 
-use codec::layout::FilePart;
+use codec::layout::{FilePart, field_range};
 use dossier::listed::ListedRecord;
 use dossier::questions::Dossier;
 use dossier::record::Head;
@@ -50,11 +51,7 @@ pub fn put_part<R: FilePart, D: Dossier>(dossier: &mut D, head: Head, out: &mut 
     ensures same { D.Dossier.meaning dossier.new ≡ D.Dossier.meaning dossier.old }
     ensures front { take (R.FilePart.start head + (3 + R.Kind.SIZE) * R.ListedRecord.count head) out.new ≡ take (R.FilePart.start head) out.old ++ flat_map (item_bytes R.Kind.TAG R.Kind.SIZE R.Kind.payload) (R.ListedRecord.list (D.Dossier.meaning dossier.old)) }
 {
-    let size = 3 + R::SIZE as usize;
-    let start = R::start(head);
     for place in 0..R::count(head) {
-        let at = start + size * place as usize;
-        let end = at + size;
-        put_item::<R, D>(dossier, place, &mut out[at..end]);
+        put_item::<R, D>(dossier, place, &mut out[field_range::<R>(head, place)]);
     }
 }

@@ -6,7 +6,7 @@ ghost use Rattle.writer.specs.Write.{write_number, write_values};
 
 use dossier::refusal::Refusal;
 
-#[derive(Clone, Copy, PartialEq, Debug)]
+#[derive(Clone, Copy, PartialEq, Eq, Debug)]
 pub enum WriteRefusal {
     // the dossier's own refusal, carried whole
     Asked(Refusal),

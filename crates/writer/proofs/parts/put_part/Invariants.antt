@@ -7,4 +7,4 @@ abbrev pub invariant-loop-place : goal.invariant-loop-place
 invariant-loop-place g l =
     g.D.Dossier.rule l.dossier ×
     (g.D.Dossier.meaning l.dossier ≡ g.D.Dossier.meaning l.initial.dossier) ×
-    (take (l.start + l.size * l.place) l.out ≡ take l.start l.initial.out ++ flat_map (item_bytes g.R.Kind.TAG g.R.Kind.SIZE g.R.Kind.payload) (take l.place (g.R.ListedRecord.list (g.D.Dossier.meaning l.initial.dossier))))
+    (take (g.R.FilePart.start l.head + (3 + g.R.Kind.SIZE) * l.place) l.out ≡ take (g.R.FilePart.start l.head) l.initial.out ++ flat_map (item_bytes g.R.Kind.TAG g.R.Kind.SIZE g.R.Kind.payload) (take l.place (g.R.ListedRecord.list (g.D.Dossier.meaning l.initial.dossier))))
