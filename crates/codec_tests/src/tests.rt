@@ -96,7 +96,10 @@ fn pair_without_a_common_head_has_no_items(rt: HostRuntime) {
         Err(Refusal::unreadable(Part::Head, 0, 4))
     );
     assert_eq!(rt; paired_row(&whole, &other, 0), past);
-    assert_eq!(rt; paired_head(&whole, &[]), Err(Refusal::unreadable(Part::Head, 0, 1)));
+    assert_eq!(rt;
+        paired_head(&whole, &[]),
+        Err(Refusal::unreadable(Part::Head, 0, 1))
+    );
     assert_eq!(rt; paired_row(&[], &whole, 0), past);
 }
 
