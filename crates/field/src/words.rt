@@ -13,6 +13,7 @@ fn word_at(bytes: &[u8], at: usize) -> u32
     u32::from_le_bytes([bytes[at], bytes[at + 1], bytes[at + 2], bytes[at + 3]])
 }
 
+// Tried: `as_chunks::<4>()` with `u32::from_le_bytes` of each. Left was that the words of the chunks are those by places.
 // The N words of a payload, if it has their length.
 pub fn read_words<const N: usize>(bytes: &[u8]) -> Option<[u32; N]>
     requires { 4 * N < 2 ^ 64 }

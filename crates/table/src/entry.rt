@@ -2,13 +2,14 @@
 ghost use Rattle.std.specs.Prelude.{◌≡◌};
 ghost use Rattle.table.specs.Held.{word, instruction_words, line_of, row_words};
 
+use dossier::listed::ListedRecord;
 use dossier::record::{Line, Row};
 use encoding::instruction::Instruction;
 use index::entry::CellEntry;
 
 // The numbers of an entry in hand are words, so it gives the record that the meaning has.
 pub trait Entry: Copy {
-    type Record;
+    type Record: ListedRecord;
 
     ghost recorded: { Self → Self.Record };
 

@@ -5,6 +5,7 @@ ghost use Rattle.dossier.specs.Meaning.{item_answer};
 ghost use Rattle.table.specs.Held.{head_of, listed, table_meaning};
 
 use crate::entry::Entry;
+use dossier::listed::ListedRecord;
 use dossier::questions::Dossier;
 use dossier::record::{Head, Line, Row};
 use dossier::refusal::{Part, Refusal};
@@ -58,19 +59,19 @@ impl<'a> Dossier for TableDossier<'a> {
     }
 
     fn instruction(&mut self, place: u32) -> Result<Instruction, Refusal> {
-        item(self.head, self.program, Part::Instruction, place)
+        item(self.head, self.program, place)
     }
 
     fn word(&mut self, place: u32) -> Result<u32, Refusal> {
-        item(self.head, self.primary, Part::Word, place)
+        item(self.head, self.primary, place)
     }
 
     fn line(&mut self, place: u32) -> Result<Line, Refusal> {
-        item(self.head, self.cells, Part::Line, place)
+        item(self.head, self.cells, place)
     }
 
     fn row(&mut self, place: u32) -> Result<Row, Refusal> {
-        item(self.head, self.rows, Part::Row, place)
+        item(self.head, self.rows, place)
     }
 }
 
@@ -92,17 +93,12 @@ fn head_of(
     })
 }
 
-// The place is compared with the length, as in the other holders; a table of entries by kind would need a law that
-// ties each to its list. So the part is given.
+// The place is compared with the length and not taken by `get`, since a must-fail edit moves this comparison by one.
 // The item that the entry at a place of a table gives; without a head there is none.
-fn item<E: Entry>(
-    head: Option<Head>,
-    entries: &[E],
-    part: Part,
-    place: u32,
-) -> Result<E::Record, Refusal>
-    ensures { result ≡ item_answer part place (slice_get (listed head (map E.Entry.recorded entries.now)) place) }
+fn item<E: Entry>(head: Option<Head>, entries: &[E], place: u32) -> Result<E::Record, Refusal>
+    ensures { result ≡ item_answer E.Record.ListedRecord.PART place (slice_get (listed head (map E.Entry.recorded entries.now)) place) }
 {
+    let part = <E::Record as ListedRecord>::PART;
     match head {
         None => Err(Refusal::Past { part, place }),
         Some(_) if place as usize >= entries.len() => Err(Refusal::Past { part, place }),
