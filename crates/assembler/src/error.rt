@@ -27,7 +27,7 @@ pub struct Refusal {
     pub value: usize,
 }
 
-// The numbers are the format's.
+// The numbers are the format's. A method, which users call; a `From` beside it would say the same again.
 impl AssemblyError {
     pub fn refusal(self) -> Refusal
         ensures { result ≡ refusal_of self }

@@ -15,6 +15,7 @@ impl Labels<'_> {
     pub(crate) fn entries(&self, text: &str) -> Result<usize, AssemblyError>
         ensures { result ≡ counting 2 0 (known self.now) (lines text.now) }
     {
+        // counted by hand, since an undefined label ends the count with its line
         let mut needed = 0;
         for (i, line) in Lines(text).enumerate() {
             let instruction = self

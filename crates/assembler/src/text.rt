@@ -7,7 +7,7 @@ use crate::labels::Labels;
 use encoding::instruction::Instruction;
 use lexer::lines::next_line;
 
-// The first line of every program.
+// The first line of every program: a fixed byte string, since it is compared; crate `printer` writes it as text.
 const HEADER: &[u8; 32] = b"; TinyRAM V=2.000 M=hv W=32 K=16";
 
 // The labels of a text, and how many entries its program needs.

@@ -41,7 +41,7 @@ pub(crate) struct Tables {
     pub(crate) rows: Vec<Row>,
 }
 
-// The records of one part.
+// The records of one part. The rule is a clause, since the dossier is borrowed, as in crate `writer`.
 fn part<R: ListedRecord, D: Dossier>(
     heap: Global,
     dossier: &mut D,

@@ -44,7 +44,8 @@ impl<'a, 'r, 'c> Log<'a, 'r, 'c> {
         }
     }
 
-    // Makes a step that gets this word or none, and has this row.
+    // Makes a step that gets this word or none, and has this row. The steps are counted in the log, since a row is written
+    // at its place, and a later touch writes an earlier row as well.
     fn make(&mut self, by: Operation, got: Option<u32>, row: Row)
         requires { self.old.steps < length self.old.rows.now }
         ensures { self.new ≡ made self.old by got row }

@@ -52,6 +52,7 @@ fn measure(rt: &HostRuntime, stride: u32) -> io::Result<u64> {
         return Err(io::Error::other("the run was refused"));
     };
     let touched = run.cells;
+    // a clock that shows no time passed gives the rate 0, which is only printed
     let rate = 1_000_000_000_000u64.checked_div(took).unwrap_or(0);
     eprintln!(rt; "stride {stride}: {touched} cells in {took} us, {rate} steps per second")?;
     Ok(rate)

@@ -93,8 +93,8 @@ fn head_of(
     })
 }
 
-// The place is compared with the length and not taken by `get`, since a must-fail edit moves this comparison by one.
-// The item that the entry at a place of a table gives; without a head there is none.
+// The item that the entry at a place of a table gives; without a head there is none. The place is compared with the length
+// and not taken by `get`, since a must-fail edit moves this comparison by one.
 fn item<E: Entry>(head: Option<Head>, entries: &[E], place: u32) -> Result<E::Record, Refusal>
     ensures { result ≡ item_answer E.Record.ListedRecord.PART place (slice_get (listed head (map E.Entry.recorded entries.now)) place) }
 {

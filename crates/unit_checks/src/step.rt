@@ -19,7 +19,8 @@ pub(crate) struct Step {
     pub row: Row,
 }
 
-// What the row says of a touch; a row of another kind says 0.
+// What the row says of a touch; a row of another kind says 0. The zeros are the definition's, of which theorems speak: next 0
+// says that there is none.
 pub(crate) fn touch_of(row: Row) -> Touch
     ensures { result ≡ touch_of row }
 {

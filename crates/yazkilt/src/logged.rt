@@ -15,7 +15,8 @@ use writer::write::write;
 const BYTES: usize = 65_536;
 
 // A row in columns: kind, cell, before, after, origin, next. An advice word takes the cell's column.
-// The columns are this program's own text, so a type of its own carries them: `Row` has its text already.
+// The columns are this program's own text, so a type of its own carries them: `Row` has its text already, and crate `field`
+// has these five words for its payload alone.
 #[derive(Clone, Copy)]
 struct Columns(Row);
 
@@ -89,6 +90,7 @@ pub(crate) fn log_run(rt: &HostRuntime, job: Job) -> anyhow::Result<()> {
     let ended = match run(heap, job, &mut rows, &mut cells) {
         Ok(ended) => ended,
         Err(refusal) => {
+            // in this program's own words: want of memory, which has no number, is told as 0
             println!(rt; "refused {}", refusal.number().unwrap_or(0))?;
             return Ok(());
         }

@@ -1,4 +1,5 @@
-// A machine with its memory and its auxiliary tape.
+// A machine with its memory and its auxiliary tape. Crate `runner` logs whole runs and gives no single step out, which the
+// trace prints.
 use encoding::operation::Operation;
 use machine::cpu::Cpu;
 use machine::step::{Demand, after, asks, execute, fetch};
