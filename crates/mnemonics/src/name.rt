@@ -7,47 +7,42 @@ use encoding::operation::Condition;
 use word::cell::Size;
 use word::operator::{Arithmetic, Comparison};
 
-// The table of crate `encoding` is by opcode, with gaps, and its own; names are found in any order.
-const MNEMONICS: [Mnemonic; 29] = [
-    Mnemonic::Compute(Arithmetic::And),
-    Mnemonic::Compute(Arithmetic::Or),
-    Mnemonic::Compute(Arithmetic::Xor),
-    Mnemonic::Compute(Arithmetic::Add),
-    Mnemonic::Compute(Arithmetic::Sub),
-    Mnemonic::Compute(Arithmetic::Mull),
-    Mnemonic::Compute(Arithmetic::Umulh),
-    Mnemonic::Compute(Arithmetic::Smulh),
-    Mnemonic::Compute(Arithmetic::Udiv),
-    Mnemonic::Compute(Arithmetic::Umod),
-    Mnemonic::Compute(Arithmetic::Shl),
-    Mnemonic::Compute(Arithmetic::Shr),
-    Mnemonic::Compare(Comparison::Equal),
-    Mnemonic::Compare(Comparison::Above),
-    Mnemonic::Compare(Comparison::AboveOrEqual),
-    Mnemonic::Compare(Comparison::Greater),
-    Mnemonic::Compare(Comparison::GreaterOrEqual),
-    Mnemonic::Not,
-    Mnemonic::Move,
-    Mnemonic::MoveIfFlag,
-    Mnemonic::Jump(Condition::Always),
-    Mnemonic::Jump(Condition::IfFlag),
-    Mnemonic::Jump(Condition::UnlessFlag),
-    Mnemonic::Store(Size::Byte),
-    Mnemonic::Store(Size::Word),
-    Mnemonic::Load(Size::Byte),
-    Mnemonic::Load(Size::Word),
-    Mnemonic::Read,
-    Mnemonic::Answer,
-];
-
 // The instruction of a name, if there is one.
 pub fn mnemonic_of(text: &str) -> Option<Mnemonic>
     ensures { result ≡ mnemonic_of text.now }
 {
-    MNEMONICS
-        .iter()
-        .copied()
-        .find(|mnemonic| name_of(*mnemonic) == text)
+    match text {
+        "and" => Some(Mnemonic::Compute(Arithmetic::And)),
+        "or" => Some(Mnemonic::Compute(Arithmetic::Or)),
+        "xor" => Some(Mnemonic::Compute(Arithmetic::Xor)),
+        "add" => Some(Mnemonic::Compute(Arithmetic::Add)),
+        "sub" => Some(Mnemonic::Compute(Arithmetic::Sub)),
+        "mull" => Some(Mnemonic::Compute(Arithmetic::Mull)),
+        "umulh" => Some(Mnemonic::Compute(Arithmetic::Umulh)),
+        "smulh" => Some(Mnemonic::Compute(Arithmetic::Smulh)),
+        "udiv" => Some(Mnemonic::Compute(Arithmetic::Udiv)),
+        "umod" => Some(Mnemonic::Compute(Arithmetic::Umod)),
+        "shl" => Some(Mnemonic::Compute(Arithmetic::Shl)),
+        "shr" => Some(Mnemonic::Compute(Arithmetic::Shr)),
+        "cmpe" => Some(Mnemonic::Compare(Comparison::Equal)),
+        "cmpa" => Some(Mnemonic::Compare(Comparison::Above)),
+        "cmpae" => Some(Mnemonic::Compare(Comparison::AboveOrEqual)),
+        "cmpg" => Some(Mnemonic::Compare(Comparison::Greater)),
+        "cmpge" => Some(Mnemonic::Compare(Comparison::GreaterOrEqual)),
+        "not" => Some(Mnemonic::Not),
+        "mov" => Some(Mnemonic::Move),
+        "cmov" => Some(Mnemonic::MoveIfFlag),
+        "jmp" => Some(Mnemonic::Jump(Condition::Always)),
+        "cjmp" => Some(Mnemonic::Jump(Condition::IfFlag)),
+        "cnjmp" => Some(Mnemonic::Jump(Condition::UnlessFlag)),
+        "store.b" => Some(Mnemonic::Store(Size::Byte)),
+        "store.w" => Some(Mnemonic::Store(Size::Word)),
+        "load.b" => Some(Mnemonic::Load(Size::Byte)),
+        "load.w" => Some(Mnemonic::Load(Size::Word)),
+        "read" => Some(Mnemonic::Read),
+        "answer" => Some(Mnemonic::Answer),
+        _ => None,
+    }
 }
 
 // A function, and no `Display`: that is refused for another crate's enum, and crate `encoding` knows no text.
