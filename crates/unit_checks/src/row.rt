@@ -5,10 +5,8 @@ ghost use Rattle.rules.specs.Checks.{operation_at, got_at, checked_row};
 
 use crate::step::{Step, touch_of};
 use crate::turn::Turn;
-use dossier::opened::Opened;
 use dossier::questions::Dossier;
 use dossier::record::Row;
-use encoding::instruction::Instruction;
 use encoding::operation::Operation;
 use machine::cpu::Cpu;
 use machine::step::{Demand, asks, execute};
@@ -26,16 +24,14 @@ fn input_of(row: Row) -> Option<u32>
 
 impl Turn {
     // The operation of instruction number `pc`: past the program it is `answer 1`.
-    fn operation_at<D: Dossier>(
-        self,
-        dossier: &mut Opened<D>,
-        pc: u32,
-    ) -> Result<Operation, Finding>
-        ensures same { dossier.new ≡ dossier.old }
-        ensures answer { result ≡ operation_at dossier.old self.head self.unit pc }
+    fn operation_at<D: Dossier>(self, dossier: &mut D, pc: u32) -> Result<Operation, Finding>
+        requires { D.Dossier.rule dossier.old }
+        ensures kept { D.Dossier.rule dossier.new }
+        ensures same { D.Dossier.meaning dossier.new ≡ D.Dossier.meaning dossier.old }
+        ensures answer { result ≡ operation_at (D.Dossier.meaning dossier.old) self.head self.unit pc }
     {
         if pc < self.head.instructions {
-            let instruction = self.need(dossier.ask::<Instruction>(pc))?;
+            let instruction = self.need(dossier.instruction(pc))?;
             Ok(instruction.operation())
         } else {
             Ok(Operation::ANSWER_ONE)
@@ -45,16 +41,18 @@ impl Turn {
     // What the step gets: a primary word, or what the row says.
     fn got_at<D: Dossier>(
         self,
-        dossier: &mut Opened<D>,
+        dossier: &mut D,
         step: Step,
         cpu: &Cpu,
     ) -> Result<Option<u32>, Finding>
-        ensures same { dossier.new ≡ dossier.old }
-        ensures answer { result ≡ got_at dossier.old self.head self.unit cpu.now step.demand step.row }
+        requires { D.Dossier.rule dossier.old }
+        ensures kept { D.Dossier.rule dossier.new }
+        ensures same { D.Dossier.meaning dossier.new ≡ D.Dossier.meaning dossier.old }
+        ensures answer { result ≡ got_at (D.Dossier.meaning dossier.old) self.head self.unit cpu.now step.demand step.row }
     {
         match step.demand {
             Demand::Primary if cpu.place < self.head.words => {
-                self.need(dossier.ask::<u32>(cpu.place)).map(Some)
+                self.need(dossier.word(cpu.place)).map(Some)
             }
             Demand::Primary => Ok(None),
             _ => Ok(input_of(step.row)),
@@ -64,13 +62,15 @@ impl Turn {
     // The machine after the row.
     pub fn check_row<D: Dossier>(
         self,
-        dossier: &mut Opened<D>,
+        dossier: &mut D,
         cpu: &Cpu,
         ended: bool,
         row: Row,
     ) -> Result<Cpu, Finding>
-        ensures same { dossier.new ≡ dossier.old }
-        ensures answer { result ≡ checked_row dossier.old self.head self.unit cpu.now ended row }
+        requires { D.Dossier.rule dossier.old }
+        ensures kept { D.Dossier.rule dossier.new }
+        ensures same { D.Dossier.meaning dossier.new ≡ D.Dossier.meaning dossier.old }
+        ensures answer { result ≡ checked_row (D.Dossier.meaning dossier.old) self.head self.unit cpu.now ended row }
     {
         let operation = self.operation_at(dossier, cpu.pc)?;
         let demand = asks(operation, cpu);
