@@ -34,6 +34,7 @@ impl<D: Dossier> Opened<D> {
         Opened { dossier, head }
     }
 
+    #[inline(always)]
     pub fn head(&self) -> Result<Head, Refusal>
         ensures made { Made self.now }
         ensures answer { result ≡ head_answer self.now }
@@ -43,6 +44,7 @@ impl<D: Dossier> Opened<D> {
 
     // The record of a kind at a place of its part. Who asks says that the meaning stays, since asking takes `&mut self`: a
     // holder may keep what it has read.
+    #[inline(always)]
     pub fn ask<R: ListedRecord>(&mut self, place: u32) -> Result<R, Refusal>
         ensures same { self.new ≡ self.old }
         ensures answer { result ≡ item_answer R.ListedRecord.PART place (slice_get (R.ListedRecord.list self.old) place) }
@@ -58,22 +60,27 @@ impl<D: Dossier> Dossier for Opened<D> {
 
     ghost rule = { λ _. Unit {0} };
 
+    #[inline(always)]
     fn head(&mut self) -> Result<Head, Refusal> {
         Opened::head(self)
     }
 
+    #[inline(always)]
     fn instruction(&mut self, place: u32) -> Result<Instruction, Refusal> {
         self.ask(place)
     }
 
+    #[inline(always)]
     fn word(&mut self, place: u32) -> Result<u32, Refusal> {
         self.ask(place)
     }
 
+    #[inline(always)]
     fn line(&mut self, place: u32) -> Result<Line, Refusal> {
         self.ask(place)
     }
 
+    #[inline(always)]
     fn row(&mut self, place: u32) -> Result<Row, Refusal> {
         self.ask(place)
     }

@@ -1,4 +1,7 @@
 // A search tree by the digits of the cell. No search in it is longer than a cell has digits.
+// std's `HashMap`, with its room reserved, was tried in its place: 500,000 new cells by rising addresses took 70 ms by
+// themselves, where the whole run that opens them takes about 80 with this tree; and a program that knows the hash can
+// make searches long.
 ghost use Rattle.std.specs.Prelude.{◌≡◌, ℕ, ◌+◌, ◌^◌, ◌<◌, List, length, IfOk, slice_set};
 ghost use Rattle.index.specs.Tree.{renewed};
 ghost use Rattle.index.specs.Map.{Keeps, FindsIn, RoomFor};
@@ -13,7 +16,8 @@ pub enum Seat {
 }
 
 // A slot holds 0, or one more than the number of an entry. The first `roots` slots are by the cell's lowest digit;
-// entry k has the four slots from `roots + 4 * k` on, by its next digit.
+// entry k has the four slots from `roots + 4 * k` on, by its next digit. `Option<u32>` in place of the 0 was tried: it takes
+// twice the room, and to make the links and open 500,000 cells took 170 to 330 ms, where 0 takes 55 to 100.
 #[derive(Drop)]
 pub struct Index {
     links: Vec<u32>,

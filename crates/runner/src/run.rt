@@ -18,7 +18,7 @@ use std::alloc::Global;
 
 // Runs the program on its tapes for at most `bound` steps. The rows of the log fill the row table, and
 // each touched cell, by rising cell, has an entry in the cell table. What is refused leaves both tables.
-// The tables are no struct: only `check` takes both, and the steps and the labels fill the rows alone.
+// The tables are no struct: the labels fill the rows alone, and the sort the entries.
 pub fn run(
     heap: Global,
     job: Job,

@@ -9,6 +9,7 @@ use rules::progress::{Item, Unit};
 
 impl Turn {
     // The unit's own item.
+    #[inline(always)]
     pub fn item<D: Dossier>(self, dossier: &mut D) -> Result<Item, Finding>
         requires { D.Dossier.rule dossier.old }
         ensures kept { D.Dossier.rule dossier.new }

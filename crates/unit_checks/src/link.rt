@@ -10,6 +10,7 @@ use run_log::links::{is_from_step, leads_to, opens};
 
 impl Turn {
     // Rule 31: the line, or the earlier row, is asked for only where there is one.
+    #[inline(always)]
     pub(crate) fn check_origin<D: Dossier>(self, dossier: &mut D, row: Row) -> Result<(), Finding>
         requires { D.Dossier.rule dossier.old }
         ensures kept { D.Dossier.rule dossier.new }
@@ -33,6 +34,7 @@ impl Turn {
     }
 
     // Rule 32: next is 0, or a later row, which is then asked for.
+    #[inline(always)]
     pub(crate) fn check_next<D: Dossier>(self, dossier: &mut D, next: u32) -> Result<(), Finding>
         requires { D.Dossier.rule dossier.old }
         ensures kept { D.Dossier.rule dossier.new }

@@ -13,6 +13,7 @@ use machine::step::{Demand, asks, execute};
 use rules::finding::Finding;
 
 // What a row says that its step was given.
+#[inline(always)]
 fn input_of(row: Row) -> Option<u32>
     ensures { result ≡ input_of row }
 {
@@ -22,8 +23,11 @@ fn input_of(row: Row) -> Option<u32>
     }
 }
 
+// Here and in what these call, hints keep the check of a row free of calls: the backend passes records through memory
+// at a call, and checking a file of rows took up to two thirds more time without them.
 impl Turn {
     // The operation of instruction number `pc`: past the program it is `answer 1`.
+    #[inline(always)]
     fn operation_at<D: Dossier>(self, dossier: &mut D, pc: u32) -> Result<Operation, Finding>
         requires { D.Dossier.rule dossier.old }
         ensures kept { D.Dossier.rule dossier.new }
@@ -39,6 +43,7 @@ impl Turn {
     }
 
     // What the step gets: a primary word, or what the row says.
+    #[inline(always)]
     fn got_at<D: Dossier>(
         self,
         dossier: &mut D,
@@ -60,6 +65,7 @@ impl Turn {
     }
 
     // The machine after the row.
+    #[inline(always)]
     pub fn check_row<D: Dossier>(
         self,
         dossier: &mut D,
