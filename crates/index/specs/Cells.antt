@@ -1,8 +1,8 @@
 -- What a map that owns its entries is seen as: the entries by number, and how many it has room for.
 --
 --   `HasEntry es c r`   r is the number of the entry of cell c, if it has one
---   `Opens x e r y`     y is x with an entry for the cell of e: r is its number, as new, where there was none and it is e, or as
---                       known; r is none if there was none and there is no room
+--   `Opens x e r y`     y is x with an entry for the cell of e: r is its number, as new, where there was none and it is e,
+--                       or as known; r is none if there was none and there is no room
 --
 -- Assumes nothing.
 use Rattle.std.specs.Prelude.{◌≡◌, ℕ, ◌<◌, List, [], ◌∷◌, ◌++◌, length, Some, None, Option}

@@ -1,5 +1,5 @@
-// A map that owns its entries. Its type has what the calls of the tree need, so that none of its own needs anything; it takes
-// the room of the entries beside that of the tree.
+// A map that owns its entries. Its type has what the calls of the tree need, so that none of its own needs anything; it
+// takes the room of the entries beside that of the tree.
 ghost use Rattle.std.specs.Prelude.{◌≡◌, length, [], IfOk, slice_set};
 ghost use Rattle.index.specs.Tree.{renewed};
 ghost use Rattle.index.specs.Order.{Apart, Arranged};

@@ -17,7 +17,7 @@ pub enum Seat {
 
 // A slot holds 0, or one more than the number of an entry. The first `roots` slots are by the cell's lowest digit;
 // entry k has the four slots from `roots + 4 * k` on, by its next digit. `Option<u32>` in place of the 0 was tried: it takes
-// twice the room, and to make the links and open 500,000 cells took 170 to 330 ms, where 0 takes 55 to 100.
+// twice the room, and to make the links and insert 500,000 cells took 170 to 330 ms, where 0 takes 55 to 100.
 #[derive(Drop)]
 pub struct Index {
     links: Vec<u32>,

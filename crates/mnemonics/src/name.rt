@@ -7,7 +7,8 @@ use encoding::operation::Condition;
 use word::cell::Size;
 use word::operator::{Arithmetic, Comparison};
 
-// The instruction of a name, if there is one.
+// The instruction of a name, if there is one. Two matches, since the compiler branches on a text's length and first bytes for
+// as many as 16 arms, and tries further ones in turn.
 pub fn mnemonic_of(text: &str) -> Option<Mnemonic>
     ensures { result ≡ mnemonic_of text.now }
 {
@@ -27,21 +28,23 @@ pub fn mnemonic_of(text: &str) -> Option<Mnemonic>
         "cmpe" => Some(Mnemonic::Compare(Comparison::Equal)),
         "cmpa" => Some(Mnemonic::Compare(Comparison::Above)),
         "cmpae" => Some(Mnemonic::Compare(Comparison::AboveOrEqual)),
-        "cmpg" => Some(Mnemonic::Compare(Comparison::Greater)),
-        "cmpge" => Some(Mnemonic::Compare(Comparison::GreaterOrEqual)),
-        "not" => Some(Mnemonic::Not),
-        "mov" => Some(Mnemonic::Move),
-        "cmov" => Some(Mnemonic::MoveIfFlag),
-        "jmp" => Some(Mnemonic::Jump(Condition::Always)),
-        "cjmp" => Some(Mnemonic::Jump(Condition::IfFlag)),
-        "cnjmp" => Some(Mnemonic::Jump(Condition::UnlessFlag)),
-        "store.b" => Some(Mnemonic::Store(Size::Byte)),
-        "store.w" => Some(Mnemonic::Store(Size::Word)),
-        "load.b" => Some(Mnemonic::Load(Size::Byte)),
-        "load.w" => Some(Mnemonic::Load(Size::Word)),
-        "read" => Some(Mnemonic::Read),
-        "answer" => Some(Mnemonic::Answer),
-        _ => None,
+        _ => match text {
+            "cmpg" => Some(Mnemonic::Compare(Comparison::Greater)),
+            "cmpge" => Some(Mnemonic::Compare(Comparison::GreaterOrEqual)),
+            "not" => Some(Mnemonic::Not),
+            "mov" => Some(Mnemonic::Move),
+            "cmov" => Some(Mnemonic::MoveIfFlag),
+            "jmp" => Some(Mnemonic::Jump(Condition::Always)),
+            "cjmp" => Some(Mnemonic::Jump(Condition::IfFlag)),
+            "cnjmp" => Some(Mnemonic::Jump(Condition::UnlessFlag)),
+            "store.b" => Some(Mnemonic::Store(Size::Byte)),
+            "store.w" => Some(Mnemonic::Store(Size::Word)),
+            "load.b" => Some(Mnemonic::Load(Size::Byte)),
+            "load.w" => Some(Mnemonic::Load(Size::Word)),
+            "read" => Some(Mnemonic::Read),
+            "answer" => Some(Mnemonic::Answer),
+            _ => None,
+        },
     }
 }
 

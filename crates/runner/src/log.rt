@@ -18,9 +18,10 @@ use index::tree::{Index, Seat};
 use machine::cpu::Cpu;
 use machine::step::{Demand, after, asks, execute, fetch};
 
-// A run that is being logged: what it was given, the tables that it fills, the index of the cells, how many were touched
-// and how many steps made, the state after them, and the auxiliary words that they left. `Going` says what holds between two steps. It is a clause and no ghost
-// field, since the check would ask for it after each call that writes to a table, where it does not hold yet.
+// A run that is being logged: what it was given, the tables that it fills, the index of the cells, how many were
+// touched and how many steps made, the state after them, and the auxiliary words that they left. `Going` says what
+// holds between two steps. It is a clause and no ghost field, since the check would ask for it after each call that
+// writes to a table, where it does not hold yet.
 #[derive(Drop)]
 struct Log<'a, 'i, 'r, 'c> {
     job: Job<'a>,
@@ -92,6 +93,7 @@ impl<'a, 'i, 'r, 'c> Log<'a, 'i, 'r, 'c> {
     {
         let step = self.steps as u32 + 1;
         let count = self.touched;
+        // both are lent at once: the borrow checker has no rule yet for one that is read while the other is lent
         let (index, cells) = (&mut *self.index, &mut *self.cells);
         match index.find(cells, count, cell) {
             Seat::Free(slot) => {
