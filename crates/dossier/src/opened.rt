@@ -53,8 +53,8 @@ impl<D: Dossier> Opened<D> {
     }
 }
 
-// What it means is its value. It has no rule of its own, since its type keeps what asking needs; so what takes any
-// dossier by its rule takes an opened one with nothing to show.
+// What it means is its value. It has no rule of its own, since its type keeps what asking needs; so what takes any dossier
+// by its rule takes an opened one with nothing to show.
 impl<D: Dossier> Dossier for Opened<D> {
     ghost meaning = { λ o. o };
 
