@@ -1,16 +1,15 @@
 // The names of the 29 instructions.
 ghost use Rattle.std.specs.Prelude.{◌≡◌};
-ghost use Rattle.mnemonics.specs.Names.{name_of, mnemonic_of};
+ghost use Rattle.std.specs.List.{find};
+ghost use Rattle.mnemonics.specs.Names.{name_of, is_named, computing, comparing, others, mnemonic_of};
 
 use encoding::mnemonic::Mnemonic;
 use encoding::operation::Condition;
 use word::cell::Size;
 use word::operator::{Arithmetic, Comparison};
 
-// The instruction of a name, if there is one. Two matches, since the compiler branches on a text's length and first bytes for
-// as many as 16 arms, and tries further ones in turn.
-pub fn mnemonic_of(text: &str) -> Option<Mnemonic>
-    ensures { result ≡ mnemonic_of text.now }
+fn computing(text: &str) -> Option<Mnemonic>
+    ensures { result ≡ find (is_named text.now) computing }
 {
     match text {
         "and" => Some(Mnemonic::Compute(Arithmetic::And)),
@@ -25,27 +24,49 @@ pub fn mnemonic_of(text: &str) -> Option<Mnemonic>
         "umod" => Some(Mnemonic::Compute(Arithmetic::Umod)),
         "shl" => Some(Mnemonic::Compute(Arithmetic::Shl)),
         "shr" => Some(Mnemonic::Compute(Arithmetic::Shr)),
+        _ => None,
+    }
+}
+
+fn comparing(text: &str) -> Option<Mnemonic>
+    ensures { result ≡ find (is_named text.now) comparing }
+{
+    match text {
         "cmpe" => Some(Mnemonic::Compare(Comparison::Equal)),
         "cmpa" => Some(Mnemonic::Compare(Comparison::Above)),
         "cmpae" => Some(Mnemonic::Compare(Comparison::AboveOrEqual)),
-        _ => match text {
-            "cmpg" => Some(Mnemonic::Compare(Comparison::Greater)),
-            "cmpge" => Some(Mnemonic::Compare(Comparison::GreaterOrEqual)),
-            "not" => Some(Mnemonic::Not),
-            "mov" => Some(Mnemonic::Move),
-            "cmov" => Some(Mnemonic::MoveIfFlag),
-            "jmp" => Some(Mnemonic::Jump(Condition::Always)),
-            "cjmp" => Some(Mnemonic::Jump(Condition::IfFlag)),
-            "cnjmp" => Some(Mnemonic::Jump(Condition::UnlessFlag)),
-            "store.b" => Some(Mnemonic::Store(Size::Byte)),
-            "store.w" => Some(Mnemonic::Store(Size::Word)),
-            "load.b" => Some(Mnemonic::Load(Size::Byte)),
-            "load.w" => Some(Mnemonic::Load(Size::Word)),
-            "read" => Some(Mnemonic::Read),
-            "answer" => Some(Mnemonic::Answer),
-            _ => None,
-        },
+        "cmpg" => Some(Mnemonic::Compare(Comparison::Greater)),
+        "cmpge" => Some(Mnemonic::Compare(Comparison::GreaterOrEqual)),
+        _ => None,
     }
+}
+
+fn other(text: &str) -> Option<Mnemonic>
+    ensures { result ≡ find (is_named text.now) others }
+{
+    match text {
+        "not" => Some(Mnemonic::Not),
+        "mov" => Some(Mnemonic::Move),
+        "cmov" => Some(Mnemonic::MoveIfFlag),
+        "jmp" => Some(Mnemonic::Jump(Condition::Always)),
+        "cjmp" => Some(Mnemonic::Jump(Condition::IfFlag)),
+        "cnjmp" => Some(Mnemonic::Jump(Condition::UnlessFlag)),
+        "store.b" => Some(Mnemonic::Store(Size::Byte)),
+        "store.w" => Some(Mnemonic::Store(Size::Word)),
+        "load.b" => Some(Mnemonic::Load(Size::Byte)),
+        "load.w" => Some(Mnemonic::Load(Size::Word)),
+        "read" => Some(Mnemonic::Read),
+        "answer" => Some(Mnemonic::Answer),
+        _ => None,
+    }
+}
+
+// The instruction of a name, if there is one. It is looked for in three functions: the compiler branches on the text's length
+// where a match has a dozen arms, and tries the names in turn where it has all 29.
+pub fn mnemonic_of(text: &str) -> Option<Mnemonic>
+    ensures { result ≡ mnemonic_of text.now }
+{
+    computing(text).or(comparing(text)).or(other(text))
 }
 
 // A function, and no `Display`: that is refused for another crate's enum, and crate `encoding` knows no text.
