@@ -3,7 +3,7 @@
 --   found name ls  the number that a name stands for among the labels ls
 --   Known          what some lines define: labels, and how many instructions there are
 -- Assumes nothing.
-use Rattle.std.specs.Prelude.{ℕ, List, [], map, Option}
+use Rattle.std.specs.Prelude.{ℕ, List, [], map, take, Option}
 use Rattle.std.specs.List.{find}
 use Rattle.std.specs.Option.{option_map}
 use Rattle.std.specs.Str.{bytes_eq}
@@ -18,7 +18,7 @@ abbrev pub label_in : List ℕ → List Label → Option Label
 label_in name ls = find (λ l. bytes_eq l.name.now name) ls
 
 abbrev pub known : declared.Labels → List (List ℕ × ℕ)
-known t = map entry t.labels.items
+known t = map entry (take t.count t.labels)
 
 abbrev pub found : List ℕ → List (List ℕ × ℕ) → Option ℕ
 found name ls = option_map (λ l. l.1) (find (λ l. bytes_eq l.0 name) ls)

@@ -12,20 +12,22 @@ use parser::statement::read_line;
 
 impl<'a> Labels<'a> {
     // Takes the label of line `n`.
+    #[tactic(auto, using(crate::proofs::Tables::entries_length, crate::proofs::Tables::entries_more))]
     fn define(&mut self, label: Word<'a>, n: usize) -> Result<(), AssemblyError>
         ensures { outcome result self.new ≡ defined (summary self.old) n label.entry.text.now }
     {
         if self.find(label.text).is_some() {
             return Err(AssemblyError::Redefined(n));
         }
-        if self.labels.is_full() {
+        if self.count >= 256 {
             return Err(AssemblyError::TooMany(n));
         }
         let number = self.instructions;
-        self.labels.push(Label {
+        self.labels[self.count] = Label {
             name: label.text,
             number,
-        });
+        };
+        self.count += 1;
         Ok(())
     }
 
@@ -61,7 +63,7 @@ impl<'a> Labels<'a> {
     pub(crate) fn scan(text: &'a str) -> Result<Labels<'a>, AssemblyError>
         ensures { gathered result ≡ scanned 2 none (lines text.now) }
     {
-        let mut labels = Labels::default();
+        let mut labels = Labels::new();
         for (i, line) in Lines(text).enumerate() {
             labels.take_line(line, 2 + i)?;
         }

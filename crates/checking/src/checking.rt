@@ -52,7 +52,7 @@ impl<D: Dossier> Checking<D> {
             }
             (Stage::Rows { cpu, ended }, Item::Row(row)) => {
                 *cpu = turn.check_row(&mut self.dossier, cpu, *ended, row)?;
-                *ended = *ended || row == Row::AdviceEnd;
+                *ended = *ended || matches!(row, Row::AdviceEnd);
             }
             // a word has no rule; the item is of the kind that the stage takes, so no other pair comes
             _ => {}

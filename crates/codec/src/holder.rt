@@ -36,6 +36,7 @@ impl<'a> ByteDossier<'a> {
     }
 
     // The record at a place of its part; without a head the parts are empty.
+    #[inline(always)]
     fn item<R: FilePart>(&self, place: u32) -> Result<R, Refusal>
         requires { ⟦<ByteDossier<'a> as Dossier>⟧.rule self.now }
         ensures { result ≡ item_answer R.ListedRecord.PART place (slice_get (R.ListedRecord.list (meaning_of self.now.bytes.now)) place) }
@@ -57,22 +58,27 @@ impl<'a> Dossier for ByteDossier<'a> {
 
     ghost rule = { λ d. Bytes d.bytes.now × (d.head ≡ head_of d.bytes.now) };
 
+    #[inline(always)]
     fn head(&mut self) -> Result<Head, Refusal> {
         self.head.ok_or(Refusal::unreadable(Part::Head, 0, LAYER))
     }
 
+    #[inline(always)]
     fn instruction(&mut self, place: u32) -> Result<Instruction, Refusal> {
         self.item(place)
     }
 
+    #[inline(always)]
     fn word(&mut self, place: u32) -> Result<u32, Refusal> {
         self.item(place)
     }
 
+    #[inline(always)]
     fn line(&mut self, place: u32) -> Result<Line, Refusal> {
         self.item(place)
     }
 
+    #[inline(always)]
     fn row(&mut self, place: u32) -> Result<Row, Refusal> {
         self.item(place)
     }

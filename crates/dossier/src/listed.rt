@@ -44,10 +44,12 @@ impl ListedRecord for Instruction {
 
     ghost listed = { λ m made. made.instructions };
 
+    #[inline(always)]
     fn count(head: Head) -> u32 {
         head.instructions
     }
 
+    #[inline(always)]
     fn ask<D: Dossier>(dossier: &mut D, place: u32) -> Result<Instruction, Refusal> {
         dossier.instruction(place)
     }
@@ -64,10 +66,12 @@ impl ListedRecord for u32 {
 
     ghost listed = { λ m made. made.words };
 
+    #[inline(always)]
     fn count(head: Head) -> u32 {
         head.words
     }
 
+    #[inline(always)]
     fn ask<D: Dossier>(dossier: &mut D, place: u32) -> Result<u32, Refusal> {
         dossier.word(place)
     }
@@ -84,10 +88,12 @@ impl ListedRecord for Line {
 
     ghost listed = { λ m made. made.lines };
 
+    #[inline(always)]
     fn count(head: Head) -> u32 {
         head.lines
     }
 
+    #[inline(always)]
     fn ask<D: Dossier>(dossier: &mut D, place: u32) -> Result<Line, Refusal> {
         dossier.line(place)
     }
@@ -104,10 +110,12 @@ impl ListedRecord for Row {
 
     ghost listed = { λ m made. made.rows };
 
+    #[inline(always)]
     fn count(head: Head) -> u32 {
         head.rows
     }
 
+    #[inline(always)]
     fn ask<D: Dossier>(dossier: &mut D, place: u32) -> Result<Row, Refusal> {
         dossier.row(place)
     }

@@ -1,9 +1,9 @@
 -- The payload of a row, both ways. Assumes nothing.
-use Rattle.std.specs.Prelude.{◌≡◌, ℕ, ◌+◌, ◌<◌, Bool, true, false, cond, ◌&&◌, ◌⊎◌, List, [], ◌∷◌, ◌++◌, length, take, drop, Some, None, Option, ◌==◌, slice_index, slice_index_or, slice_set, refl}
+use Rattle.std.specs.Prelude.{◌≡◌, ℕ, ◌+◌, ◌<◌, ◌≤◌, Bool, true, false, cond, ◌&&◌, ◌⊎◌, List, [], ◌∷◌, ◌++◌, length, drop, Some, None, Option, ◌==◌, slice_index, slice_index_or, slice_set, refl}
 use Rattle.std.proofs.Common.{sym, ap, subst, ◌∙◌, inl, inr, arith, eqb-true}
 use borrow.Rule.Slice.PartMut.{put_mid}
 use Rattle.std.specs.List.{flat_map}
-use Rattle.std.proofs.lemmas.List.{take_all, drop_all, drop_more, append-nil}
+use Rattle.std.proofs.lemmas.List.{drop_all, drop_more, append-nil}
 use Rattle.std.proofs.lemmas.Bool.Decides.{nat_tests}
 use Rattle.dossier.specs.declared.record.Touch.{Touch}
 use Rattle.dossier.specs.declared.record.Row.{Row}
@@ -22,14 +22,10 @@ row_length (Advice w) = refl
 row_length AdviceEnd = refl
 
 -- a byte set, and the words put after it
-pub led_put : (k m : ℕ) (ws ns bs ys : List ℕ) → length (led ns) ≡ length bs → length bs ≡ m + 1 → k ∷ ws ≡ ns → ys ≡ filled (flat_map bytes_of ws) (take m (drop 1 (slice_set bs 0 k))) → put_mid 1 m (slice_set bs 0 k) ys ≡ filled (led ns) bs
-led_put k m ws ns [] ys e h is w = absurd (omega arith)
+pub led_put : (k m : ℕ) (ws ns bs ys : List ℕ) → length (led ns) ≡ length bs → length bs ≤ m + 1 → k ∷ ws ≡ ns → ys ≡ flat_map bytes_of ws → put_mid 1 m (slice_set bs 0 k) ys ≡ filled (led ns) bs
+led_put k m ws ns [] ys e h is w = let n : length (led ns) ≡ length (led (k ∷ ws)) = ap (λ (x : List ℕ). length (led x)) (sym is) in absurd (omega arith)
 led_put k m ws ns (a ∷ bs) ys e h is w =
     let none : drop m bs ≡ [] = drop_all m bs (omega arith) in
-    let whole : take m bs ≡ bs = take_all m bs (omega arith) in
-    let long : length (led (k ∷ ws)) ≡ length (a ∷ bs) = ap (λ (x : List ℕ). length (led x)) is ∙ e in
-    let room : length (flat_map bytes_of ws) ≡ length (take m bs) = let n = ap length whole in omega arith in
-    let same : ys ≡ flat_map bytes_of ws = w ∙ filled_is (flat_map bytes_of ws) (take m bs) room in
     let ends : ys ++ drop m bs ≡ ys = ap (λ (x : List ℕ). ys ++ x) none ∙ append-nil ys in
     let all : k ∷ (ys ++ drop m bs) ≡ led (k ∷ ws) = cc in
     all ∙ ap led is ∙ sym (filled_is (led ns) (a ∷ bs) e)

@@ -30,6 +30,7 @@ pub trait Kind: Record {
 }
 
 // The record in a field of this kind.
+#[inline(always)]
 pub fn read_field<K: Kind>(field: &[u8]) -> Option<K>
     ensures { result ≡ field_read K.Kind.TAG K.Kind.SIZE K.Kind.parsed field.now }
 {

@@ -22,12 +22,13 @@ fn digit(byte: u8) -> Result<u32>
 }
 
 fn unhex(rt: &HostRuntime, text: &str) -> Result<Vec<u8>> {
-    let (pairs, []) = text.as_bytes().as_chunks::<2>() else {
-        bail!("half a byte");
-    };
+    let (pairs, rest) = text.as_bytes().as_chunks::<2>();
     let mut bytes = Vec::new(rt.alloc());
     for [high, low] in pairs {
         bytes.push((digit(*high)? * 16 + digit(*low)?) as u8)?;
+    }
+    if !rest.is_empty() {
+        bail!("half a byte");
     }
     Ok(bytes)
 }

@@ -1,32 +1,22 @@
--- The map from cells to the numbers of their entries. What its user needs of it is said here and in `Order`; the tree inside
--- is in `Tree`.
+-- The map that an index makes of a table of entries: from the cells of its first entries to their numbers.
+-- What its user needs of it is said here and in `Order`; the tree inside is in `Tree`.
 --
---   `FindsIn es c r`   r is the number of the entry of cell c, if it has one
---   `Opens x e r y`    y is x with an entry for the cell of e: r is its number, as new, where there was none and it is e, or as
---                      known; r is none if there was none and there is no room
---   `Keeps x`          the links of x are the tree of its entries, and there is room for as many as its limit
+--   `Keeps x es n`         x is the index of the first n entries of es, which are of different cells
+--   `FindsIn x es n c r`   r is where the search for cell c ends: the number of its entry, or, where it has none, a free slot
+--   `RoomFor x n`          x has room for n entries
 --
 -- Assumes nothing.
-use Rattle.std.specs.Prelude.{◌≡◌, ℕ, ◌+◌, ◌<◌, ◌≤◌, List, [], ◌∷◌, ◌++◌, length, Some, None, Option, vec_items, vec_capacity}
+use Rattle.std.specs.Prelude.{ℕ, List, vec_items}
 use Rattle.index.specs.declared.entry.CellEntry.{CellEntry}
-use Rattle.index.specs.declared.map.CellMap.TheInside.{Inside}
-use Rattle.index.specs.declared.map.Entered.{Entered}
-use Rattle.index.specs.declared.map.Entered.TheVariants.{New, Known}
-use Rattle.index.specs.Cells.{Cells, cell_of, Absent}
-use Rattle.index.specs.Tree.{Room, Kept}
+use Rattle.index.specs.declared.tree.Seat.{Seat}
+use Rattle.index.specs.declared.tree.Index.{Index}
+use Rattle.index.specs.Tree.{Kept, Finds, Room}
 
-abbrev pub FindsIn : List CellEntry → ℕ → Option ℕ → Type 0
-FindsIn es c (Some k) = (k < length es) × (cell_of es k ≡ c)
-FindsIn es c None = Absent es c
+abbrev pub Keeps : Index → List CellEntry → ℕ → Type 0
+Keeps x es n = Kept x.roots (vec_items x.links) es n
 
-abbrev pub Opens : Cells → CellEntry → Option Entered → Cells → Type 0
-Opens x e (Some (Known k)) y = FindsIn x.entries e.cell (Some k) × (y ≡ x)
-Opens x e (Some (New k)) y =
-    Absent x.entries e.cell × (k ≡ length x.entries) × (y ≡ record { entries = x.entries ++ e ∷ []; limit = x.limit })
-Opens x e None y = Absent x.entries e.cell × (length x.entries ≡ x.limit) × (y ≡ x)
+abbrev pub FindsIn : Index → List CellEntry → ℕ → ℕ → Seat → Type 0
+FindsIn x es n c r = Finds x.roots (vec_items x.links) es n c r
 
-pub record Keeps (x : Inside) : Type 0 where
-  pub tree : Kept (x.limit + 1) (vec_items x.links) (vec_items x.entries)
-  pub room : Room (x.limit + 1) (vec_items x.links) x.limit
-  pub within : length (vec_items x.entries) ≤ x.limit
-  pub lent : x.limit ≤ vec_capacity x.entries
+abbrev pub RoomFor : Index → ℕ → Type 0
+RoomFor x n = Room x.roots (vec_items x.links) n

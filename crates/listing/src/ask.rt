@@ -13,11 +13,11 @@ pub fn answer(bytes: &[u8], part: Part, place: u32) -> Result<Found, Refusal>
     ensures { result ≡ answer_of (meaning_of bytes.now) part place }
 {
     let mut dossier = ByteDossier::new(bytes);
-    match part {
-        Part::Head => dossier.head().map(Found::Head),
-        Part::Instruction => dossier.instruction(place).map(Found::Instruction),
-        Part::Word => dossier.word(place).map(Found::Word),
-        Part::Line => dossier.line(place).map(Found::Line),
-        Part::Row => dossier.row(place).map(Found::Row),
-    }
+    Ok(match part {
+        Part::Head => Found::Head(dossier.head()?),
+        Part::Instruction => Found::Instruction(dossier.instruction(place)?),
+        Part::Word => Found::Word(dossier.word(place)?),
+        Part::Line => Found::Line(dossier.line(place)?),
+        Part::Row => Found::Row(dossier.row(place)?),
+    })
 }

@@ -50,6 +50,7 @@ pub fn asks(operation: Operation, cpu: &Cpu) -> Demand
 }
 
 // Apart from `after`, whose second promise is proved from the first.
+#[inline(always)]
 fn leave(operation: Operation, cpu: &Cpu, before: u32) -> u32
     ensures { result ≡ left operation cpu.now before }
 {
@@ -64,6 +65,7 @@ fn leave(operation: Operation, cpu: &Cpu, before: u32) -> u32
 }
 
 // The value after the step of the cell that it touches, from the value before.
+#[inline(always)]
 pub fn after(operation: Operation, cpu: &Cpu, before: u32) -> u32
     ensures value { result ≡ left operation cpu.now before }
     ensures bytes { Leaves operation cpu.now before result }
@@ -92,6 +94,7 @@ fn receive(cpu: Cpu, to: u8, tape: u32, word: Option<u32>) -> Cpu
 }
 
 // Apart from `execute`, whose second promise is proved from the first.
+#[inline(always)]
 fn perform(cpu: Cpu, operation: Operation, got: Option<u32>) -> Cpu
     ensures { result ≡ stepped operation got cpu }
 {
@@ -122,6 +125,7 @@ fn perform(cpu: Cpu, operation: Operation, got: Option<u32>) -> Cpu
 
 // The state after the step. `got` is the value of the cell that the step asks for,
 // or the word of the tape that it asks for, if there is one.
+#[inline(always)]
 pub fn execute(cpu: Cpu, operation: Operation, got: Option<u32>) -> Cpu
     ensures value { result ≡ stepped operation got cpu }
     ensures frame { Frame operation got cpu result }

@@ -1,9 +1,10 @@
 -- The names of the 29 instructions.
 --   name_of m      the name of a mnemonic
---   mnemonics      the 29
+--   mnemonics      the 29: those that compute, those that compare, and the others
+--   is_named w m   the name of m is w
 --   mnemonic_of w  the mnemonic whose name is w, if there is one
 -- Assumes nothing.
-use Rattle.std.specs.Prelude.{ℕ, List, [], ◌∷◌, codes, Option}
+use Rattle.std.specs.Prelude.{ℕ, Bool, List, [], ◌∷◌, ◌++◌, codes, Option}
 use Rattle.std.specs.List.{find}
 use Rattle.std.specs.Str.{bytes_eq}
 use Rattle.word.specs.declared.operator.Arithmetic.TheVariants.{And, Or, Xor, Add, Sub, Mull, Umulh, Smulh, Udiv, Umod, Shl, Shr}
@@ -44,13 +45,24 @@ name_of (Load Word) = codes "load.w"
 name_of Read = codes "read"
 name_of Answer = codes "answer"
 
-abbrev pub mnemonics : List Mnemonic
-mnemonics =
+abbrev pub computing : List Mnemonic
+computing =
     Compute And ∷ Compute Or ∷ Compute Xor ∷ Compute Add ∷ Compute Sub ∷ Compute Mull
-    ∷ Compute Umulh ∷ Compute Smulh ∷ Compute Udiv ∷ Compute Umod ∷ Compute Shl ∷ Compute Shr
-    ∷ Compare Equal ∷ Compare Above ∷ Compare AboveOrEqual ∷ Compare Greater ∷ Compare GreaterOrEqual
-    ∷ Not ∷ Move ∷ MoveIfFlag ∷ Jump Always ∷ Jump IfFlag ∷ Jump UnlessFlag
+    ∷ Compute Umulh ∷ Compute Smulh ∷ Compute Udiv ∷ Compute Umod ∷ Compute Shl ∷ Compute Shr ∷ []
+
+abbrev pub comparing : List Mnemonic
+comparing = Compare Equal ∷ Compare Above ∷ Compare AboveOrEqual ∷ Compare Greater ∷ Compare GreaterOrEqual ∷ []
+
+abbrev pub others : List Mnemonic
+others =
+    Not ∷ Move ∷ MoveIfFlag ∷ Jump Always ∷ Jump IfFlag ∷ Jump UnlessFlag
     ∷ Store Byte ∷ Store Word ∷ Load Byte ∷ Load Word ∷ Read ∷ Answer ∷ []
 
+abbrev pub mnemonics : List Mnemonic
+mnemonics = (computing ++ comparing) ++ others
+
+abbrev pub is_named : List ℕ → Mnemonic → Bool
+is_named w m = bytes_eq (name_of m) w
+
 abbrev pub mnemonic_of : List ℕ → Option Mnemonic
-mnemonic_of w = find (λ m. bytes_eq (name_of m) w) mnemonics
+mnemonic_of w = find (is_named w) mnemonics

@@ -1,53 +1,72 @@
 // The names of the 29 instructions.
 ghost use Rattle.std.specs.Prelude.{◌≡◌};
-ghost use Rattle.mnemonics.specs.Names.{name_of, mnemonic_of};
+ghost use Rattle.std.specs.List.{find};
+ghost use Rattle.mnemonics.specs.Names.{name_of, is_named, computing, comparing, others, mnemonic_of};
 
 use encoding::mnemonic::Mnemonic;
 use encoding::operation::Condition;
 use word::cell::Size;
 use word::operator::{Arithmetic, Comparison};
 
-// The table of crate `encoding` is by opcode, with gaps, and its own; names are found in any order.
-const MNEMONICS: [Mnemonic; 29] = [
-    Mnemonic::Compute(Arithmetic::And),
-    Mnemonic::Compute(Arithmetic::Or),
-    Mnemonic::Compute(Arithmetic::Xor),
-    Mnemonic::Compute(Arithmetic::Add),
-    Mnemonic::Compute(Arithmetic::Sub),
-    Mnemonic::Compute(Arithmetic::Mull),
-    Mnemonic::Compute(Arithmetic::Umulh),
-    Mnemonic::Compute(Arithmetic::Smulh),
-    Mnemonic::Compute(Arithmetic::Udiv),
-    Mnemonic::Compute(Arithmetic::Umod),
-    Mnemonic::Compute(Arithmetic::Shl),
-    Mnemonic::Compute(Arithmetic::Shr),
-    Mnemonic::Compare(Comparison::Equal),
-    Mnemonic::Compare(Comparison::Above),
-    Mnemonic::Compare(Comparison::AboveOrEqual),
-    Mnemonic::Compare(Comparison::Greater),
-    Mnemonic::Compare(Comparison::GreaterOrEqual),
-    Mnemonic::Not,
-    Mnemonic::Move,
-    Mnemonic::MoveIfFlag,
-    Mnemonic::Jump(Condition::Always),
-    Mnemonic::Jump(Condition::IfFlag),
-    Mnemonic::Jump(Condition::UnlessFlag),
-    Mnemonic::Store(Size::Byte),
-    Mnemonic::Store(Size::Word),
-    Mnemonic::Load(Size::Byte),
-    Mnemonic::Load(Size::Word),
-    Mnemonic::Read,
-    Mnemonic::Answer,
-];
+fn computing(text: &str) -> Option<Mnemonic>
+    ensures { result ≡ find (is_named text.now) computing }
+{
+    match text {
+        "and" => Some(Mnemonic::Compute(Arithmetic::And)),
+        "or" => Some(Mnemonic::Compute(Arithmetic::Or)),
+        "xor" => Some(Mnemonic::Compute(Arithmetic::Xor)),
+        "add" => Some(Mnemonic::Compute(Arithmetic::Add)),
+        "sub" => Some(Mnemonic::Compute(Arithmetic::Sub)),
+        "mull" => Some(Mnemonic::Compute(Arithmetic::Mull)),
+        "umulh" => Some(Mnemonic::Compute(Arithmetic::Umulh)),
+        "smulh" => Some(Mnemonic::Compute(Arithmetic::Smulh)),
+        "udiv" => Some(Mnemonic::Compute(Arithmetic::Udiv)),
+        "umod" => Some(Mnemonic::Compute(Arithmetic::Umod)),
+        "shl" => Some(Mnemonic::Compute(Arithmetic::Shl)),
+        "shr" => Some(Mnemonic::Compute(Arithmetic::Shr)),
+        _ => None,
+    }
+}
 
-// The instruction of a name, if there is one.
+fn comparing(text: &str) -> Option<Mnemonic>
+    ensures { result ≡ find (is_named text.now) comparing }
+{
+    match text {
+        "cmpe" => Some(Mnemonic::Compare(Comparison::Equal)),
+        "cmpa" => Some(Mnemonic::Compare(Comparison::Above)),
+        "cmpae" => Some(Mnemonic::Compare(Comparison::AboveOrEqual)),
+        "cmpg" => Some(Mnemonic::Compare(Comparison::Greater)),
+        "cmpge" => Some(Mnemonic::Compare(Comparison::GreaterOrEqual)),
+        _ => None,
+    }
+}
+
+fn other(text: &str) -> Option<Mnemonic>
+    ensures { result ≡ find (is_named text.now) others }
+{
+    match text {
+        "not" => Some(Mnemonic::Not),
+        "mov" => Some(Mnemonic::Move),
+        "cmov" => Some(Mnemonic::MoveIfFlag),
+        "jmp" => Some(Mnemonic::Jump(Condition::Always)),
+        "cjmp" => Some(Mnemonic::Jump(Condition::IfFlag)),
+        "cnjmp" => Some(Mnemonic::Jump(Condition::UnlessFlag)),
+        "store.b" => Some(Mnemonic::Store(Size::Byte)),
+        "store.w" => Some(Mnemonic::Store(Size::Word)),
+        "load.b" => Some(Mnemonic::Load(Size::Byte)),
+        "load.w" => Some(Mnemonic::Load(Size::Word)),
+        "read" => Some(Mnemonic::Read),
+        "answer" => Some(Mnemonic::Answer),
+        _ => None,
+    }
+}
+
+// The instruction of a name, if there is one. It is looked for in three functions: the compiler branches on the text's length
+// where a match has a dozen arms, and tries the names in turn where it has all 29.
 pub fn mnemonic_of(text: &str) -> Option<Mnemonic>
     ensures { result ≡ mnemonic_of text.now }
 {
-    MNEMONICS
-        .iter()
-        .copied()
-        .find(|mnemonic| name_of(*mnemonic) == text)
+    computing(text).or(comparing(text)).or(other(text))
 }
 
 // A function, and no `Display`: that is refused for another crate's enum, and crate `encoding` knows no text.

@@ -13,7 +13,7 @@ use Rattle.run_log.proofs.Sound.{sound}
 use Rattle.run_log.proofs.Find.{latest_is, next_cases, after_is}
 use Rattle.run_log.proofs.Rows.{event_row, hitting, log_row, length_events}
 use Rattle.index.specs.declared.entry.CellEntry.{CellEntry}
-use Rattle.index.specs.Cells.{none, cell_of}
+use Rattle.index.specs.Tree.{none, cell_of}
 use Rattle.index.specs.Order.{Arranged}
 use Rattle.runner.specs.Sofar.{LastAt, Sofar}
 use Rattle.runner.specs.Filling.{entry_at}

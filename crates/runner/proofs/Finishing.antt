@@ -20,6 +20,7 @@ pub record Looped (s0 s : Log) (k : ℕ) : Type 0 where
   pub going : Going s
   pub steps : s.steps ≡ k
   pub beyond : Beyond k s0.rows.now s.rows.now
+  pub past : Beyond s.touched s0.cells.now s.cells.now
   pub pending : Pending s0.job k
 
 module _ {s0 s r : Log} {k : ℕ} {a : Option ℕ} (l : Looped s0 s k) (t : Onward s r a) where
@@ -27,7 +28,7 @@ module _ {s0 s r : Log} {k : ℕ} {a : Option ℕ} (l : Looped s0 s k) (t : Onwa
   i = s0.job
 
   same : SameRun s0 r
-  same = record { job = t.same.job ∙ l.same.job; rows = t.same.rows ∙ l.same.rows; cells = t.same.cells ∙ l.same.cells }
+  same = record { job = t.same.job ∙ l.same.job; rows = t.same.rows ∙ l.same.rows; cells = t.same.cells ∙ l.same.cells; index = t.same.index ∙ l.same.index }
 
   steps : r.steps ≡ k + 1
   steps = t.steps ∙ ap (λ u. u + 1) l.steps
@@ -38,13 +39,16 @@ module _ {s0 s r : Log} {k : ℕ} {a : Option ℕ} (l : Looped s0 s k) (t : Onwa
       let Q : ℕ → Type 0 = λ u. a ≡ answer_at i.program.now i.primary.now i.auxiliary.now u in
       subst Q l.steps (subst P l.same.job t.answer)
 
-  filling : Filling (event_of_step i) (config_at i r.steps).memory i.bound r.steps r.cells.now r.rows.now
+  filling : Filling (event_of_step i) (config_at i r.steps).memory i.bound r.steps r.touched r.index.now r.rows.now r.cells.now
   filling =
-      let P : Job → Type 0 = λ j. Filling (event_of_step j) (config_at j r.steps).memory j.bound r.steps r.cells.now r.rows.now in
+      let P : Job → Type 0 = λ j. Filling (event_of_step j) (config_at j r.steps).memory j.bound r.steps r.touched r.index.now r.rows.now r.cells.now in
       subst P same.job t.going.filling
 
   beyond : Beyond r.steps s0.rows.now r.rows.now
   beyond = beyond_trans (omega (arith, steps)) l.beyond t.beyond
+
+  past : Beyond r.touched s0.cells.now r.cells.now
+  past = beyond_trans t.grown l.past t.past
 
   pub looped_more : None ≡ a → Looped s0 r (k + 1)
   looped_more none = record {
@@ -52,6 +56,7 @@ module _ {s0 s r : Log} {k : ℕ} {a : Option ℕ} (l : Looped s0 s k) (t : Onwa
     going = t.going;
     steps = steps;
     beyond = let P : ℕ → Type 0 = λ u. Beyond u s0.rows.now r.rows.now in subst P steps beyond;
+    past = past;
     pending = ends_later i.program.now i.primary.now i.auxiliary.now i.bound k l.pending (k + 1) (sym (none ∙ answer)) (omega arith);
   }
 
@@ -63,13 +68,14 @@ module _ {s0 s r : Log} {k : ℕ} {a : Option ℕ} (l : Looped s0 s k) (t : Onwa
       made = omega (arith, steps);
       filling = filling;
       beyond = beyond;
+      past = past;
     };
   }
 
 pub finished_out : {s0 s : Log} {k : ℕ} → Looped s0 s k → k ≡ s0.job.bound → Finished s0 s None
 finished_out {s0 = s0} {s = s} {k = k} l end =
     let i = s0.job in
-    let P : Job → ℕ → Type 0 = λ j u. Filling (event_of_step j) (config_at j u).memory j.bound u s.cells.now s.rows.now in
+    let P : Job → ℕ → Type 0 = λ j u. Filling (event_of_step j) (config_at j u).memory j.bound u s.touched s.index.now s.rows.now s.cells.now in
     let B : ℕ → Type 0 = λ u. Beyond u s0.rows.now s.rows.now in
     record {
       same = l.same;
@@ -78,5 +84,6 @@ finished_out {s0 = s0} {s = s} {k = k} l end =
         made = omega arith;
         filling = subst (P i) (l.steps ∙ end) (subst (λ j. P j s.steps) l.same.job l.going.filling);
         beyond = subst B end l.beyond;
+        past = l.past;
       };
     }

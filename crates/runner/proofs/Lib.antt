@@ -3,7 +3,6 @@ pub mod Memory
 pub mod Machine
 pub mod Tables
 pub mod Onward
-pub mod Touching
 pub mod Ends
 pub mod Finishing
 pub mod Labels

@@ -10,8 +10,10 @@ use Rattle.run_log.specs.Log.{Event, event_of}
 use Rattle.run_log.specs.Log as log
 use Rattle.run_log.specs.Rules.{row_at, touch_of, IsTouch}
 use Rattle.index.specs.declared.entry.CellEntry.{CellEntry}
-use Rattle.index.specs.Cells.{Cells, none, cell_of, Apart}
-use Rattle.runner.specs.Sofar.{link_to, Other, Sofar, Holds}
+use Rattle.index.specs.declared.tree.Index.{Index}
+use Rattle.index.specs.Tree.{none, cell_of}
+use Rattle.index.specs.Map.{Keeps, RoomFor}
+use Rattle.runner.specs.Sofar.{link_to, Other}
 use Rattle.runner.specs.Filling.{entry_at, Filling, Beyond}
 use Rattle.runner.proofs.Memory.{holds_same, holds_first, holds_later}
 use Rattle.runner.proofs.Steps.{Same, same, link_same, link_next, quiet_step, first_step, later_step}
@@ -38,17 +40,11 @@ pub touch_pos : (rows : List Row) (t : ℕ) → IsTouch (row_at rows t) → 1 �
 touch_pos rows zero h = absurd (omega arith)
 touch_pos rows (suc i) h = omega arith
 
-module _ {ev : ℕ → Event} {mem : ℕ → ℕ} {B T : ℕ} {x : Cells} {rows : List Row} (h : Filling ev mem B T x rows) (more : T < B) where
-  abbrev es : List CellEntry
-  es = x.entries
-
-  abbrev n : ℕ
-  n = length x.entries
-
+module _ {ev : ℕ → Event} {mem : ℕ → ℕ} {B T n : ℕ} {x : Index} {rows : List Row} {cells : List CellEntry} (h : Filling ev mem B T n x rows cells) (more : T < B) where
   same_rows : (r : Row) (t : ℕ) → (t ≡ suc T → ⊥) → Same (row_at rows t) (row_at (set rows T r) t)
   same_rows r t ne = rw (row_there rows T t r ne) (same (row_at rows t))
 
-  pub other_filled : (mem' : ℕ → ℕ) (r : Row) → Other r → event_of r ≡ ev T → ((d : ℕ) → mem' d ≡ mem d) → Filling ev mem' B (T + 1) x (set rows T r)
+  pub other_filled : (mem' : ℕ → ℕ) (r : Row) → Other r → event_of r ≡ ev T → ((d : ℕ) → mem' d ≡ mem d) → Filling ev mem' B (T + 1) n x (set rows T r) cells
   other_filled mem' r other event same = rw add-one (record {
     sofar = quiet_step h.sofar (record {
       kept = same_rows r;
@@ -59,43 +55,51 @@ module _ {ev : ℕ → Event} {mem : ℕ → ℕ} {B T : ℕ} {x : Cells} {rows 
       event = ap event_of (row_here rows T r (omega (arith, h.row_room))) ∙ event;
     }) refl refl (rw (row_here rows T r (omega (arith, h.row_room))) other) refl (λ k l. refl);
     holds = holds_same h.holds same;
-    apart = h.apart;
+    keeps = h.keeps;
     room = h.room;
     few = omega (arith, h.few);
     row_room = simp length-set h.row_room;
+    cell_room = h.cell_room;
     short = h.short;
   })
 
   -- the last touch of entry k
-  pub last_touch : (k : ℕ) → k < n → (1 ≤ (entry_at es k).last) × ((entry_at es k).last ≤ T)
-  last_touch k l = let o = h.sofar.lasts k l in (touch_pos rows (entry_at es k).last o.touch, o.done)
+  pub last_touch : (k : ℕ) → k < n → (1 ≤ (entry_at cells k).last) × ((entry_at cells k).last ≤ T)
+  last_touch k l = let o = h.sofar.lasts k l in (touch_pos rows (entry_at cells k).last o.touch, o.done)
 
-  pub first_filled : (mem' : ℕ → ℕ) (r : Touch) (x' : Cells) → ((k : ℕ) → k < n → cell_of es k ≡ r.cell → ⊥) → r.before ≡ 0 → r.origin ≡ n → r.next ≡ 0 → log.touch r.cell r.after ≡ ev T →
-      length x'.entries ≡ suc n → ((k : ℕ) → k < n → entry_at x'.entries k ≡ entry_at es k) → entry_at x'.entries n ≡ record { cell = r.cell; first = suc T; last = suc T; value = r.after } →
-      ((d : ℕ) → mem' d ≡ cond (eqb r.cell d) r.after (mem d)) → Apart x'.entries → B ≤ x'.limit → Filling ev mem' B (T + 1) x' (set rows T (FromLine r))
-  first_filled mem' r x' absent clear number end event grown old new put apart room = rw add-one (record {
-    sofar = first_step h.sofar (record {
+  pub first_filled : (mem' : ℕ → ℕ) (r : Touch) (x' : Index) → ((k : ℕ) → k < n → cell_of cells k ≡ r.cell → ⊥) → r.before ≡ 0 → r.origin ≡ n → r.next ≡ 0 → log.touch r.cell r.after ≡ ev T →
+      (e : CellEntry) → e ≡ record { cell = r.cell; first = suc T; last = suc T; value = r.after } →
+      ((d : ℕ) → mem' d ≡ cond (eqb r.cell d) r.after (mem d)) →
+      Keeps x' (set cells n e) (n + 1) → RoomFor x' B → Filling ev mem' B (T + 1) (n + 1) x' (set rows T (FromLine r)) (set cells n e)
+  first_filled mem' r x' absent clear number end event e is put keeps room = rw add-one (record {
+    sofar = rw add-one (first_step h.sofar (record {
       kept = same_rows (FromLine r);
       next = λ t a b. ap (λ u. (touch_of u).next) (row_there rows T t (FromLine r) a);
       end = refl;
       grown = omega arith;
       ents = λ k l. (ap (λ e. e.cell) (old k l), ap (λ e. e.first) (old k l));
       event = ap event_of here ∙ event;
-    }) r absent refl refl here clear number end grown old new;
-    holds = let P : ℕ → Type 0 = λ u. Holds mem' u (entry_at x'.entries) in
-        subst P (sym grown) (holds_first mem mem' r.cell r.after put h.holds absent old (ap (λ u. u.cell) new) (ap (λ u. u.value) new));
-    apart = apart;
+    }) r absent refl refl here clear number end refl old new);
+    holds = rw add-one (holds_first mem mem' r.cell r.after put h.holds absent old (ap (λ u. u.cell) new) (ap (λ u. u.value) new));
+    keeps = keeps;
     room = room;
     few = omega (arith, h.few);
     row_room = simp length-set h.row_room;
+    cell_room = simp length-set h.cell_room;
     short = h.short;
   })
     where
       here : row_at (set rows T (FromLine r)) (suc T) ≡ FromLine r
       here = row_here rows T (FromLine r) (omega (arith, h.row_room))
 
-  module _ (r : Touch) (k p : ℕ) (old : k < n) (p-is : p ≡ (entry_at es k).last) (q d : Row) (q-is : q ≡ link_to (T + 1) (get_or (set rows T (FromStep r)) (p - 1) d)) (e : CellEntry)
-      (e-is : e ≡ record { cell = cell_of es k; first = (entry_at es k).first; last = suc T; value = r.after }) where
+      old : (k : ℕ) → k < n → entry_at (set cells n e) k ≡ entry_at cells k
+      old k l = get_or-set_other cells n k e none (λ z. omega arith)
+
+      new : entry_at (set cells n e) n ≡ record { cell = r.cell; first = suc T; last = suc T; value = r.after }
+      new = get_or-set_same cells n e none (omega (arith, h.few, h.cell_room)) ∙ is
+
+  module _ (r : Touch) (k p : ℕ) (old : k < n) (p-is : p ≡ (entry_at cells k).last) (q d : Row) (q-is : q ≡ link_to (T + 1) (get_or (set rows T (FromStep r)) (p - 1) d)) (e : CellEntry)
+      (e-is : e ≡ record { cell = cell_of cells k; first = (entry_at cells k).first; last = suc T; value = r.after }) where
     p_in : (1 ≤ p) × (p ≤ T)
     p_in = let o = last_touch k old in (omega arith, omega arith)
 
@@ -129,26 +133,22 @@ module _ {ev : ℕ → Event} {mem : ℕ → ℕ} {B T : ℕ} {x : Cells} {rows 
       | inr z ↦ rw (others t ne z) (same (row_at rows t))
     ]
 
-    this : entry_at (set es k e) k ≡ record { cell = cell_of es k; first = (entry_at es k).first; last = suc T; value = r.after }
-    this = get_or-set_same es k e none old ∙ e-is
+    this : entry_at (set cells k e) k ≡ record { cell = cell_of cells k; first = (entry_at cells k).first; last = suc T; value = r.after }
+    this = get_or-set_same cells k e none (omega (arith, h.few, h.cell_room)) ∙ e-is
 
-    ents : (i : ℕ) → i < n → ((entry_at (set es k e) i).cell ≡ (entry_at es i).cell) × ((entry_at (set es k e) i).first ≡ (entry_at es i).first)
+    ents : (i : ℕ) → i < n → ((entry_at (set cells k e) i).cell ≡ (entry_at cells i).cell) × ((entry_at (set cells k e) i).first ≡ (entry_at cells i).first)
     ents i l = elim (cases_eq i k) [
       | inl z ↦ rw z (ap (λ u. u.cell) this, ap (λ u. u.first) this)
-      | inr z ↦ let o = get_or-set_other es k i e none z in (ap (λ u. u.cell) o, ap (λ u. u.first) o)
+      | inr z ↦ let o = get_or-set_other cells k i e none z in (ap (λ u. u.cell) o, ap (λ u. u.first) o)
     ]
 
-    pub later_filled : (mem' : ℕ → ℕ) (x' : Cells) → r.cell ≡ cell_of es k → r.before ≡ (entry_at es k).value → r.origin ≡ p → r.next ≡ 0 →
+    pub later_filled : (mem' : ℕ → ℕ) → r.cell ≡ cell_of cells k → r.before ≡ (entry_at cells k).value → r.origin ≡ p → r.next ≡ 0 →
         log.touch r.cell r.after ≡ ev T → ((d : ℕ) → mem' d ≡ cond (eqb r.cell d) r.after (mem d)) →
-        x'.entries ≡ set es k e → Apart x'.entries → B ≤ x'.limit → Filling ev mem' B (T + 1) x' rows2
-    later_filled mem' x' cell before from end event put is apart room =
+        Keeps x (set cells k e) n → Filling ev mem' B (T + 1) n x rows2 (set cells k e)
+    later_filled mem' cell before from end event put keeps =
         let touched : IsTouch (row_at rows p) = rw p-is (h.sofar.lasts k old).touch in
-        let long : length (set es k e) ≡ n = length-set es k e in
-        let S : List CellEntry → Type 0 = λ u. Sofar ev (suc T) (length u) (row_at rows2) (entry_at u) in
-        let H : List CellEntry → Type 0 = λ u. Holds mem' (length u) (entry_at u) in
-        let F : List CellEntry → Type 0 = λ u. length u ≤ suc T in
         rw add-one (record {
-          sofar = subst S (sym is) (later_step h.sofar (record {
+          sofar = later_step h.sofar (record {
             kept = kept;
             next = λ t a b. ap (λ u. (touch_of u).next) (others t a b);
             end = rw p-is (h.sofar.lasts k old).next;
@@ -156,12 +156,13 @@ module _ {ev : ℕ → Event} {mem : ℕ → ℕ} {B T : ℕ} {x : Cells} {rows 
             ents = ents;
             event = ap event_of new ∙ event;
           }) r k old p-is new cell before from end (ap (λ u. (touch_of u).next) (at_p ∙ q_link) ∙ link_next (suc T) (row_at rows p) touched)
-              long h.apart (λ i l ne. get_or-set_other es k i e none ne) this);
-          holds = subst H (sym is) (rw long (holds_later mem mem' r.cell r.after put h.holds k old (sym cell) h.apart (λ i l ne. get_or-set_other es k i e none ne)
-              (ap (λ u. u.cell) this ∙ sym cell) (ap (λ u. u.value) this)));
-          apart = apart;
-          room = room;
-          few = subst F (sym is) (omega (arith, h.few));
+              refl h.keeps.apart (λ i l ne. get_or-set_other cells k i e none ne) this;
+          holds = holds_later mem mem' r.cell r.after put h.holds k old (sym cell) h.keeps.apart (λ i l ne. get_or-set_other cells k i e none ne)
+              (ap (λ u. u.cell) this ∙ sym cell) (ap (λ u. u.value) this);
+          keeps = keeps;
+          room = h.room;
+          few = omega (arith, h.few);
           row_room = simp (length-set, length-set) h.row_room;
+          cell_room = simp length-set h.cell_room;
           short = h.short;
         })

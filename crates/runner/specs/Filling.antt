@@ -1,11 +1,11 @@
 -- What a run has filled.
 --
 --   `Beyond n xs ys`                    ys is as xs was from place n on
---   `Filling ev mem B T cells rows`     rows and cells after T steps that showed the events ev and left the memory mem, with
---                                       room for B steps
+--   `Filling ev mem B T n x rows cells` tables and index after T steps that showed the events ev, left the memory mem
+--                                       and touched n cells, with room for B steps
 --   `config_at i T`                     the run's state, memory and unread tape after T steps
 --   `Quiet ws s g a d`                  a step that asks d shows nothing, gets g and answers a
---   `Logged i a cells rows rows'`       the run has ended, with the answer a or with none
+--   `Logged i r x ..`                   the run has ended as r says
 --
 -- Assumes nothing.
 use Rattle.std.specs.Prelude.{◌≡◌, ℕ, ◌≤◌, List, length, Some, None, Option, slice_index_or}
@@ -18,8 +18,10 @@ use Rattle.run_log.specs.Rules.{row_at}
 use Rattle.run_log.specs.Run.{Machine, Config, after, shown_at}
 use Rattle.tinyram.specs.Program.{tinyram, word_at}
 use Rattle.index.specs.declared.entry.CellEntry.{CellEntry}
-use Rattle.index.specs.Cells.{Cells, none, Apart}
-use Rattle.runner.specs.declared.ending.Answered.{Answered}
+use Rattle.index.specs.declared.tree.Index.{Index}
+use Rattle.index.specs.Tree.{none}
+use Rattle.index.specs.Map.{Keeps, RoomFor}
+use Rattle.runner.specs.declared.ending.Run.{Run}
 use Rattle.runner.specs.declared.job.Job.{Job}
 use Rattle.runner.specs.Ending.{ending, steps_in}
 use Rattle.runner.specs.Sofar.{Sofar, Holds}
@@ -31,13 +33,14 @@ pub record Beyond {X : Type 0} (n : ℕ) (xs ys : List X) : Type 0 where
   pub long : length ys ≡ length xs
   pub same : (k : ℕ) (d : X) → n ≤ k → slice_index_or ys k d ≡ slice_index_or xs k d
 
-pub record Filling (ev : ℕ → Event) (mem : ℕ → ℕ) (B T : ℕ) (cells : Cells) (rows : List Row) : Type 0 where
-  pub sofar : Sofar ev T (length cells.entries) (row_at rows) (entry_at cells.entries)
-  pub holds : Holds mem (length cells.entries) (entry_at cells.entries)
-  pub apart : Apart cells.entries
-  pub room : B ≤ cells.limit
-  pub few : length cells.entries ≤ T
+pub record Filling (ev : ℕ → Event) (mem : ℕ → ℕ) (B T n : ℕ) (x : Index) (rows : List Row) (cells : List CellEntry) : Type 0 where
+  pub sofar : Sofar ev T n (row_at rows) (entry_at cells)
+  pub holds : Holds mem n (entry_at cells)
+  pub keeps : Keeps x cells n
+  pub room : RoomFor x B
+  pub few : n ≤ T
   pub row_room : B ≤ length rows
+  pub cell_room : B ≤ length cells
   pub short : B ≤ 1000000
 
 -- THE RUN
@@ -58,8 +61,9 @@ Quiet ws s g a Primary = (g ≡ word_at ws s.place) × (a ≡ None)
 Quiet ws s g a Advice = ⊥
 Quiet ws s g a (Halt v) = (g ≡ None) × (a ≡ Some v)
 
-pub record Logged (i : Job) (a : Option Answered) (cells : Cells) (rows rows' : List Row) : Type 0 where
-  pub ends : a ≡ ending i.program.now i.primary.now i.auxiliary.now i.bound
-  pub made : steps_in i.bound a ≤ i.bound
-  pub filling : Filling (event_of_step i) (config_at i (steps_in i.bound a)).memory i.bound (steps_in i.bound a) cells rows'
-  pub beyond : Beyond (steps_in i.bound a) rows rows'
+pub record Logged (i : Job) (r : Run) (x : Index) (rows rows' : List Row) (cells cells' : List CellEntry) : Type 0 where
+  pub ends : r.answer ≡ ending i.program.now i.primary.now i.auxiliary.now i.bound
+  pub made : steps_in i.bound r.answer ≤ i.bound
+  pub filling : Filling (event_of_step i) (config_at i (steps_in i.bound r.answer)).memory i.bound (steps_in i.bound r.answer) r.cells x rows' cells'
+  pub beyond : Beyond (steps_in i.bound r.answer) rows rows'
+  pub past : Beyond r.cells cells cells'

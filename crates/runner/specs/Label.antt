@@ -10,7 +10,7 @@ use Rattle.std.specs.Prelude.{◌≡◌, ℕ, ◌<◌, ◌≤◌, List, ◌≢�
 use Rattle.dossier.specs.declared.record.Row.{Row}
 use Rattle.dossier.specs.declared.record.Row.TheVariants.{Plain, FromLine, FromStep, Advice, AdviceEnd}
 use Rattle.index.specs.declared.entry.CellEntry.{CellEntry}
-use Rattle.index.specs.Cells.{none}
+use Rattle.index.specs.Tree.{none}
 
 abbrev pub with_line : ℕ → Row → Row
 with_line j Plain = Plain

@@ -4,7 +4,7 @@
 --                                           that is outside its limits
 --   `first_ill_formed p`                    the place of the first ill-formed instruction
 --   `refused p ws b r c`                    the refusal of a run with r rows and c cell entries lent, if there is one
---   `refusal_number e`, `refusal_values e`  the number of a refusal, if it has one, and the values that it returns
+--   `refusal_number e`, `refusal_values e`  the number of a refusal, 0 where it has none, and the values that it returns
 --
 -- Assumes nothing.
 use Rattle.std.specs.Prelude.{ℕ, cond, ◌&&◌, not, List, [], ◌∷◌, length, Some, None, Option, nat_le, position}
@@ -42,11 +42,11 @@ limit_number limit.Program = 1
 limit_number limit.Primary = 2
 limit_number limit.Bound = 3
 
-abbrev pub refusal_number : RunRefusal → Option ℕ
-refusal_number (Outside l) = Some 7
-refusal_number (IllFormed k) = Some 6
-refusal_number (Room n) = Some 8
-refusal_number OutOfMemory = None
+abbrev pub refusal_number : RunRefusal → ℕ
+refusal_number (Outside l) = 7
+refusal_number (IllFormed k) = 6
+refusal_number (Room n) = 8
+refusal_number OutOfMemory = 0
 
 abbrev pub refusal_values : RunRefusal → List ℕ
 refusal_values (Outside l) = limit_number l ∷ []

@@ -1,43 +1,55 @@
 // The steps of a run, logged one by one.
-ghost use Rattle.std.specs.Prelude.{◌≡◌, ◌<◌, ◌≤◌, length, [], None};
+ghost use Rattle.std.specs.Prelude.{◌≡◌, ◌<◌, ◌≤◌, length, None};
 ghost use Rattle.machine.specs.State.{start};
 ghost use Rattle.machine.specs.declared.step.Demand.TheVariants.{Cell, Advice};
 ghost use Rattle.machine.specs.Effects.{asked};
 ghost use Rattle.tinyram.specs.Program.{operation, word_at};
+ghost use Rattle.index.specs.Map.{Keeps, RoomFor};
 ghost use Rattle.runner.specs.Filling.{Logged};
 ghost use Rattle.runner.specs.Going.{made, Going, Onward, Finished};
 
-use crate::ending::Answered;
+use crate::ending::{Answered, Run};
 use crate::job::Job;
 use crate::touch::{first_record, later_record, linked, opened};
 use dossier::record::Row;
 use encoding::operation::Operation;
-use index::map::{CellMap, Entered};
+use index::entry::CellEntry;
+use index::tree::{Index, Seat};
 use machine::cpu::Cpu;
 use machine::step::{Demand, after, asks, execute, fetch};
 
-// A run that is being logged: what it was given, the tables that it fills, how many steps were made, the state after
-// them, and the auxiliary words that they left. `Going` says what holds between two steps. It is a clause and no ghost
-// field, since the check would ask for it after each call that writes to a table, where it does not hold yet.
+// A run that is being logged: what it was given, the tables that it fills, the index of the cells, how many were
+// touched and how many steps made, the state after them, and the auxiliary words that they left. `Going` says what
+// holds between two steps. It is a clause and no ghost field, since the check would ask for it after each call that
+// writes to a table, where it does not hold yet.
 #[derive(Drop)]
-struct Log<'a, 'r, 'c> {
+struct Log<'a, 'i, 'r, 'c> {
     job: Job<'a>,
+    index: &'i mut Index,
     rows: &'r mut [Row],
-    cells: &'c mut CellMap,
+    cells: &'c mut [CellEntry],
+    touched: usize,
     steps: usize,
     cpu: Cpu,
     unread: &'a [u32],
 }
 
-impl<'a, 'r, 'c> Log<'a, 'r, 'c> {
+impl<'a, 'i, 'r, 'c> Log<'a, 'i, 'r, 'c> {
     // A log of no step.
-    fn new(job: Job<'a>, rows: &'r mut [Row], cells: &'c mut CellMap) -> Log<'a, 'r, 'c>
-        ensures { result ≡ record { job = job.entry; rows = rows.entry; cells = cells.entry; steps = 0; cpu = start; unread = job.entry.auxiliary } }
+    fn new(
+        job: Job<'a>,
+        index: &'i mut Index,
+        rows: &'r mut [Row],
+        cells: &'c mut [CellEntry],
+    ) -> Log<'a, 'i, 'r, 'c>
+        ensures { result ≡ record { job = job.entry; index = index.entry; rows = rows.entry; cells = cells.entry; touched = 0; steps = 0; cpu = start; unread = job.entry.auxiliary } }
     {
         Log {
             job,
+            index,
             rows,
             cells,
+            touched: 0,
             steps: 0,
             cpu: Cpu::start(),
             unread: job.auxiliary,
@@ -80,23 +92,27 @@ impl<'a, 'r, 'c> Log<'a, 'r, 'c> {
         ensures { Onward self.old self.new None }
     {
         let step = self.steps as u32 + 1;
-        match self.cells.open(opened(cell, step)) {
-            Some(Entered::New(number)) => {
+        let count = self.touched;
+        // both are lent at once: the borrow checker has no rule yet for one that is read while the other is lent
+        let (index, cells) = (&mut *self.index, &mut *self.cells);
+        match index.find(cells, count, cell) {
+            Seat::Free(slot) => {
                 let value = after(by, &self.cpu, 0);
-                self.cells.renew(number, step, value);
-                let record = first_record(cell, number as u32, value);
+                let entry = opened(cell, step, value);
+                self.index.insert(self.cells, count, slot, entry);
+                self.touched += 1;
+                let record = first_record(cell, count as u32, value);
                 self.make(by, Some(0), Row::FromLine(record));
             }
-            Some(Entered::Known(number)) => {
-                let entry = self.cells.entries()[number];
+            Seat::Taken(number) => {
+                let entry = self.cells[number];
                 let value = after(by, &self.cpu, entry.value);
-                self.cells.renew(number, step, value);
+                self.index.renew(self.cells, count, number, step, value);
                 let record = later_record(entry, value);
                 self.make(by, Some(entry.value), Row::FromStep(record));
                 let former = entry.last as usize - 1;
                 self.rows[former] = linked(self.rows[former], step);
             }
-            None => unreachable!(),
         }
     }
 
@@ -142,12 +158,18 @@ impl<'a, 'r, 'c> Log<'a, 'r, 'c> {
 }
 
 // Logs the steps of a run. The cells stand in the order of their first touches.
-pub fn log_steps(job: Job, rows: &mut [Row], cells: &mut CellMap) -> Option<Answered>
-    requires empty { cells.old.entries ≡ [] }
-    requires limit { job.bound ≤ cells.old.limit }
+pub fn log_steps(job: Job, index: &mut Index, rows: &mut [Row], cells: &mut [CellEntry]) -> Run
+    requires keeps { Keeps index.old cells.old 0 }
+    requires room { RoomFor index.old job.bound }
     requires rows { job.bound ≤ length rows.old }
+    requires cells { job.bound ≤ length cells.old }
     requires few { job.bound ≤ 1000000 }
-    ensures { Logged job.entry result cells.new rows.old rows.new }
+    ensures { Logged job.entry result index.new rows.old rows.new cells.old cells.new }
 {
-    Log::new(job, rows, cells).finish()
+    let mut log = Log::new(job, index, rows, cells);
+    let answer = log.finish();
+    Run {
+        answer,
+        cells: log.touched as u32,
+    }
 }

@@ -34,15 +34,15 @@ impl From<AllocError> for RunRefusal {
 }
 
 impl RunRefusal {
-    // The number of the refusal, if it has one.
-    pub fn number(&self) -> Option<u8>
+    // The number of the refusal, 0 where it has none.
+    pub fn number(&self) -> u8
         ensures { result ≡ refusal_number self.now }
     {
         match self {
-            RunRefusal::Outside(_) => Some(7),
-            RunRefusal::IllFormed { .. } => Some(6),
-            RunRefusal::Room { .. } => Some(8),
-            RunRefusal::OutOfMemory => None,
+            RunRefusal::Outside(_) => 7,
+            RunRefusal::IllFormed { .. } => 6,
+            RunRefusal::Room { .. } => 8,
+            RunRefusal::OutOfMemory => 0,
         }
     }
 

@@ -12,12 +12,13 @@ use crate::log::log_steps;
 use crate::refusal::RunRefusal;
 use dossier::record::Row;
 use index::entry::CellEntry;
-use index::map::CellMap;
+use index::order::arrange;
+use index::tree::Index;
 use std::alloc::Global;
 
 // Runs the program on its tapes for at most `bound` steps. The rows of the log fill the row table, and
 // each touched cell, by rising cell, has an entry in the cell table. What is refused leaves both tables.
-// The tables are no struct: only `check` takes both, and the steps and the labels fill the rows alone.
+// The tables are no struct: the labels fill the rows alone, and the sort the entries.
 pub fn run(
     heap: Global,
     job: Job,
@@ -29,13 +30,10 @@ pub fn run(
     ensures cells { cells.new ≡ cells_after job.entry.program.now job.entry.primary.now job.entry.auxiliary.now job.entry.bound result cells.old }
 {
     check(job, rows, cells)?;
-    let mut map = CellMap::new(heap, job.bound)?;
-    let answer = log_steps(job, rows, &mut map);
-    let entries = map.into_arranged();
-    label(rows, &entries);
-    cells[..entries.len()].copy_from_slice(&entries);
-    Ok(Run {
-        answer,
-        cells: entries.len() as u32,
-    })
+    let mut index = Index::new(heap, job.bound as usize)?;
+    let run = log_steps(job, &mut index, rows, cells);
+    let count = run.cells as usize;
+    arrange(cells, count);
+    label(rows, &cells[..count]);
+    Ok(run)
 }

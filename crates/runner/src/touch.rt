@@ -41,14 +41,14 @@ pub fn later_record(entry: CellEntry, after: u32) -> Touch
     }
 }
 
-// The entry of a cell that holds 0 until its first touch, which is in this step.
-pub fn opened(cell: u32, step: u32) -> CellEntry
-    ensures { result ≡ opened_entry cell step 0 }
+// The entry of a cell at its first touch.
+pub fn opened(cell: u32, step: u32, value: u32) -> CellEntry
+    ensures { result ≡ opened_entry cell step value }
 {
     CellEntry {
         cell,
         first: step,
         last: step,
-        ..CellEntry::default()
+        value,
     }
 }

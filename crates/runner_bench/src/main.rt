@@ -33,7 +33,7 @@ fn stores(heap: Global, stride: u32) -> Result<Vec<Instruction>, AllocError> {
     Ok(program)
 }
 
-// Steps per second of a run whose stores are a stride apart.
+// Steps per second of a run whose stores are a stride apart; 0 of one that is refused.
 fn measure(rt: &HostRuntime, stride: u32) -> io::Result<u64> {
     let heap = rt.alloc();
     let program = stores(heap, stride)?;
@@ -49,7 +49,7 @@ fn measure(rt: &HostRuntime, stride: u32) -> io::Result<u64> {
     let ended = run(heap, job, &mut rows, &mut cells);
     let took = u64::try_from(start.elapsed(rt)?.as_micros()).unwrap_or(u64::MAX);
     let Ok(run) = ended else {
-        return Err(io::Error::other("the run was refused"));
+        return Ok(0);
     };
     let touched = run.cells;
     // a clock that shows no time passed gives the rate 0, which is only printed

@@ -6,7 +6,6 @@ use runner::job::Job;
 use runner::refusal::RunRefusal;
 use runner::run::run;
 use std::alloc::Global;
-use std::fmt::Debug;
 use std::process::Abort;
 use std::test::Fail;
 
@@ -34,12 +33,26 @@ pub struct Room {
     pub cells: usize,
 }
 
-// Whether a table begins with the entries expected, and has its mark beyond.
-fn check_table<T: Copy + PartialEq + Debug>(rt: &impl Abort, table: &[T], expected: &[T], mark: T) {
-    assert!(rt; expected.len() <= table.len());
-    let (front, rest) = table.split_at(expected.len());
+// Whether the rows begin with those expected, and have their mark beyond.
+fn check_rows(rt: &impl Abort, rows: &[Row], expected: &[Row]) {
+    assert!(rt; expected.len() <= rows.len());
+    let (front, rest) = rows.split_at(expected.len());
     assert_eq!(rt; front, expected);
-    assert!(rt; rest.iter().all(|entry| *entry == mark));
+    assert!(rt; rest.iter().all(|row| *row == MARKED_ROW));
+}
+
+// All numbers of an entry, since entries compare by their cells alone.
+fn numbers_of(entry: CellEntry) -> [u32; 4] {
+    [entry.cell, entry.first, entry.last, entry.value]
+}
+
+// Whether the entries begin with those expected, and have their mark beyond.
+fn check_cells(rt: &impl Abort, cells: &[CellEntry], expected: &[CellEntry]) {
+    assert!(rt; expected.len() <= cells.len());
+    for (place, entry) in cells.iter().enumerate() {
+        let wanted = expected.get(place).copied().unwrap_or(MARKED_ENTRY);
+        assert_eq!(rt; numbers_of(*entry), numbers_of(wanted));
+    }
 }
 
 // Whether a run ends so, with these rows and entries.
@@ -47,8 +60,8 @@ pub fn check_run(rt: &impl Abort, heap: Global, job: Job, log: Log) {
     let mut rows = [MARKED_ROW; 24];
     let mut cells = [MARKED_ENTRY; 24];
     assert_eq!(rt; run(heap, job, &mut rows, &mut cells), Ok(log.run));
-    check_table(rt, &rows, log.rows, MARKED_ROW);
-    check_table(rt, &cells, log.cells, MARKED_ENTRY);
+    check_rows(rt, &rows, log.rows);
+    check_cells(rt, &cells, log.cells);
 }
 
 // Whether a run with so much room is refused so, and leaves both tables.
@@ -62,7 +75,7 @@ pub fn check_refusal(
     let mut rows = vec![in heap; MARKED_ROW; room.rows]?;
     let mut cells = vec![in heap; MARKED_ENTRY; room.cells]?;
     assert_eq!(rt; run(heap, job, &mut rows, &mut cells), Err(refusal));
-    check_table(rt, &rows, &[], MARKED_ROW);
-    check_table(rt, &cells, &[], MARKED_ENTRY);
+    check_rows(rt, &rows, &[]);
+    check_cells(rt, &cells, &[]);
     Ok(())
 }

@@ -4,6 +4,8 @@
 #[cfg(test)]
 mod check;
 #[cfg(test)]
+mod map;
+#[cfg(test)]
 mod refusals;
 #[cfg(test)]
 mod runs;

@@ -102,10 +102,10 @@ fn numbers_and_values(rt: HostRuntime) {
         (RunRefusal::Room { needed: 9 }, 8, 9),
     ];
     for (refusal, number, value) in cases {
-        assert_eq!(rt; refusal.number(), Some(number));
+        assert_eq!(rt; refusal.number(), number);
         assert_eq!(rt; refusal.value(0), Some(value));
         assert_eq!(rt; refusal.value(1), None);
     }
-    assert_eq!(rt; RunRefusal::OutOfMemory.number(), None);
+    assert_eq!(rt; RunRefusal::OutOfMemory.number(), 0);
     assert_eq!(rt; RunRefusal::OutOfMemory.value(0), None);
 }

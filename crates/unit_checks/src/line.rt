@@ -3,9 +3,8 @@ ghost use Rattle.std.specs.Prelude.{◌≡◌};
 ghost use Rattle.rules.specs.Checks.{checked_instruction, checked_line, above, within};
 
 use crate::turn::Turn;
-use dossier::opened::Opened;
 use dossier::questions::Dossier;
-use dossier::record::{Line, Row};
+use dossier::record::Line;
 use encoding::instruction::Instruction;
 use rules::finding::{Finding, Rule};
 use run_log::links::is_from_line;
@@ -35,17 +34,19 @@ impl Turn {
     // Rules 24 and 25: the row is asked for only where there is such a step.
     pub fn check_line<D: Dossier>(
         self,
-        dossier: &mut Opened<D>,
+        dossier: &mut D,
         former: Option<u32>,
         line: Line,
     ) -> Result<(), Finding>
-        ensures same { dossier.new ≡ dossier.old }
-        ensures answer { result ≡ checked_line dossier.old self.head self.unit former line }
+        requires { D.Dossier.rule dossier.old }
+        ensures kept { D.Dossier.rule dossier.new }
+        ensures same { D.Dossier.meaning dossier.new ≡ D.Dossier.meaning dossier.old }
+        ensures answer { result ≡ checked_line (D.Dossier.meaning dossier.old) self.head self.unit former line }
     {
         let is_next = line.cell % 4 == 0 && is_above(former, line.cell);
         self.check(is_next, Rule::LineOrder)?;
         self.check(self.is_within(line.step), Rule::LineStep)?;
-        let row = self.need(dossier.ask::<Row>(line.step - 1))?;
+        let row = self.need(dossier.row(line.step - 1))?;
         self.check(is_from_line(row, u64::from(self.place())), Rule::LineStep)
     }
 }

@@ -21,6 +21,7 @@ pub(crate) struct Step {
 
 // What the row says of a touch; a row of another kind says 0. The zeros are the definition's, of which theorems speak: next 0
 // says that there is none.
+#[inline(always)]
 pub(crate) fn touch_of(row: Row) -> Touch
     ensures { result ≡ touch_of row }
 {
@@ -29,6 +30,7 @@ pub(crate) fn touch_of(row: Row) -> Touch
 
 impl Step {
     // Rule 26.
+    #[inline(always)]
     fn answers_only_zero(self) -> bool
         ensures { result ≡ only_zero self.demand }
     {
@@ -36,6 +38,7 @@ impl Step {
     }
 
     // Rule 27, at row `number` of `rows`, counted from 1.
+    #[inline(always)]
     fn halts_last(self, rows: u32, number: u64) -> bool
         ensures { result ≡ halts_last rows number self.demand }
     {
@@ -46,17 +49,19 @@ impl Step {
     }
 
     // Rule 28: both kinds of touch count as one.
+    #[inline(always)]
     fn fits_kind(self) -> bool
         ensures { result ≡ kind_fits self.demand self.row }
     {
         match self.demand {
             Demand::Cell(_) => matches!(self.row, Row::FromLine(_) | Row::FromStep(_)),
             Demand::Advice => matches!(self.row, Row::Advice(_) | Row::AdviceEnd),
-            _ => self.row == Row::Plain,
+            _ => matches!(self.row, Row::Plain),
         }
     }
 
     // Rule 29.
+    #[inline(always)]
     fn fits_advice(self, ended: bool) -> bool
         ensures { result ≡ advice_fits ended self.row }
     {
@@ -64,6 +69,7 @@ impl Step {
     }
 
     // Rule 30.
+    #[inline(always)]
     fn fits_touch(self, cpu: &Cpu) -> bool
         ensures { result ≡ touch_fits (left self.operation cpu.now) self.demand (touch_of self.row) }
     {
@@ -79,6 +85,7 @@ impl Step {
 
 impl Turn {
     // Rules 26 to 30.
+    #[inline(always)]
     pub(crate) fn check_step(self, step: Step, cpu: &Cpu, ended: bool) -> Result<(), Finding>
         ensures { result ≡ checked_step self.head.rows self.unit ended (left step.operation cpu.now) step.demand step.row }
     {

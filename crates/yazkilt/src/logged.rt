@@ -90,8 +90,7 @@ pub(crate) fn log_run(rt: &HostRuntime, job: Job) -> anyhow::Result<()> {
     let ended = match run(heap, job, &mut rows, &mut cells) {
         Ok(ended) => ended,
         Err(refusal) => {
-            // in this program's own words: want of memory, which has no number, is told as 0
-            println!(rt; "refused {}", refusal.number().unwrap_or(0))?;
+            println!(rt; "refused {}", refusal.number())?;
             return Ok(());
         }
     };
